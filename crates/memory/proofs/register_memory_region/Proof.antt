@@ -1,0 +1,21 @@
+-- `register_memory_region` registers by the kind's number.
+use mathlib.Core.Path.{_≡_}
+use borrow.Author.Needs.{needs}
+use Rattle.memory.proofs.register_memory_region.Statement.{statement}
+use Rattle.memory.proofs.register_memory_region.Tie as tie
+use Rattle.memory.proofs.register_memory_region.Reads as reads
+use Rattle.memory.proofs.register_memory_region.Lts as lts
+use Rattle.entry.proofs.BootloaderMemoryKind.number.Reads as number-reads
+use Rattle.memory.proofs.MemoryMap.register.Reads as register-reads
+
+number-requires : tie.Need-number-requires
+number-requires c κs = search needs
+
+register-requires : tie.Need-register-requires
+register-requires c κs = search needs
+
+returns : tie.Need-returns
+returns c = rw (← c .before .number .ensures) (c .register .ensures)
+
+pub register-memory-region-spec : {M : Type 1} → statement M
+register-memory-region-spec = tie.close (tie.spec number-requires register-requires returns)

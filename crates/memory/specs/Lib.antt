@@ -1,0 +1,4 @@
+pub mod Map
+pub mod Made
+pub mod List
+pub mod Listing
