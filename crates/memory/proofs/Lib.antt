@@ -1,6 +1,5 @@
 pub mod SlotLaws
 pub mod PassLaws
 pub mod MapLaws
-pub mod ListLaws
-pub mod ListingLaws
+pub mod RunLaws
 pub mod Refusing

@@ -7,7 +7,7 @@ use native.Mathlib.Omega.{arith}
 use denote.Enum.Declared
 use Rattle.memory.specs.declared.Answer.{Answer}
 use Rattle.memory.specs.declared.Answer.the-variants.{Done, UnknownKind, MapFull}
-use Rattle.memory.specs.List.{isDone}
+use Rattle.memory.specs.Run.{isDone}
 use Rattle.memory.proofs.Answer as answer
 
 pub refused : (a : Answer) → (Declared.tagOf answer.the-type a ≡ 1) ⊎ (Declared.tagOf answer.the-type a ≡ 2) → isDone a ≡ false

@@ -1,4 +1,3 @@
 pub mod Map
 pub mod Made
-pub mod List
-pub mod Listing
+pub mod Run

@@ -1,0 +1,110 @@
+// The bootloader's list: 24 bytes an entry, registered whole or not at all.
+ghost use mathlib.Core.Path.{_≡_};
+ghost use Prim.Native.Nat.{_≤_, _<_, _+_};
+ghost use lib.ListN.{length};
+ghost use Rattle.memory.specs.Map.{mapOf, left};
+ghost use Rattle.memory.specs.Made.{Made};
+ghost use Rattle.memory.specs.Run.{registeredAll};
+ghost use Rattle.bootloader.specs.List.{word, allKnown, claims, listed};
+use entry::KindRead;
+use memory::Admitted;
+use memory::Answer;
+use memory::MemoryMap;
+use memory::Registered;
+
+fn wide(x: u8) -> u64
+    ensures { λ r. ⌜ (r ≡ x) × (r < 256) ⌝ }
+{
+    x as u64
+}
+
+// The number in the 8 bytes at a place, the lowest byte first.
+fn word_at(list: &[u8], at: usize) -> u64
+    requires { ⌜ at + 8 ≤ length (now list) ⌝ }
+    ensures { λ r. ⌜ r ≡ word (now (list .entry)) at ⌝ }
+{
+    let a = wide(list[at + 7]) * 256 + wide(list[at + 6]);
+    let b = (a * 256 + wide(list[at + 5])) * 256 + wide(list[at + 4]);
+    let c = (b * 256 + wide(list[at + 3])) * 256 + wide(list[at + 2]);
+    (c * 256 + wide(list[at + 1])) * 256 + wide(list[at])
+}
+
+// Whether every entry of a list has one of the seven kinds.
+fn all_known(list: &[u8]) -> bool
+    ensures { λ r. ⌜ r ≡ allKnown (now (list .entry)) ⌝ }
+{
+    let n = list.len() / 24;
+    let mut i: usize = 0;
+    while i < n {
+        let KindRead::Known(_) = entry::kind_of(word_at(list, i * 24 + 16)) else {
+            return false;
+        };
+        i += 1;
+    }
+    true
+}
+
+// Registers the entries of a list in place, until one is refused. What it had registered stays then,
+// so this is a step of the call below and no call of its own.
+fn register_list_in(
+    starts: &mut [u64; 512],
+    ends: &mut [u64; 512],
+    kinds: &mut [u64; 512],
+    size: usize,
+    list: &[u8],
+) -> Admitted
+    requires { ⌜ Made 4096 (mapOf (now starts) (now ends) (now kinds) size) ⌝ }
+    ensures { λ r. ⌜ left r (now (starts .exit)) (now (ends .exit)) (now (kinds .exit)) ≡ registeredAll 4096 (mapOf (now (starts .entry)) (now (ends .entry)) (now (kinds .entry)) size) (claims (now (list .entry))) ⌝ }
+{
+    let mut held = size;
+    let n = list.len() / 24;
+    let mut i: usize = 0;
+    while i < n {
+        let at = i * 24;
+        let base = word_at(list, at);
+        let len = word_at(list, at + 8);
+        let kind = word_at(list, at + 16);
+        let r = memory::register_in(starts, ends, kinds, held, base, len, kind);
+        let answer = r.answer;
+        let Answer::Done = answer else {
+            return r;
+        };
+        held = r.size;
+        i += 1;
+    }
+    Admitted {
+        size: held,
+        answer: Answer::Done,
+    }
+}
+
+// Registers every entry of the bootloader's list, or none of them.
+pub fn register_bootloader_areas(map: MemoryMap, list: &[u8]) -> Registered
+    requires { ⌜ Made 4096 map ⌝ }
+    ensures { λ r. ⌜ r ≡ listed 4096 map (now (list .entry)) ⌝ }
+{
+    if !all_known(list) {
+        return Registered {
+            map,
+            answer: Answer::UnknownKind,
+        };
+    }
+    let mut starts = map.starts;
+    let mut ends = map.ends;
+    let mut kinds = map.kinds;
+    let held = map.size;
+    let r = register_list_in(&mut starts, &mut ends, &mut kinds, held, list);
+    let answer = r.answer;
+    let Answer::Done = answer else {
+        return Registered { map, answer };
+    };
+    Registered {
+        map: MemoryMap {
+            starts,
+            ends,
+            kinds,
+            size: r.size,
+        },
+        answer: Answer::Done,
+    }
+}
