@@ -1,7 +1,7 @@
 -- An area carved by reservations, as `add_memory` does it: document 01, "Areas".
 -- CarveLaws.carve-right says what it comes to: an address is left exactly when it lies in the area and in no reservation.
 use mathlib.Core.List.{List, [], _∷_, _++_}
-use mathlib.Core.Bool.{Bool, cond}
+use mathlib.Core.Bool.{cond}
 use Prim.Native.Nat.{ℕ, zero, suc, _-_}
 use lib.Dec.{ltb, leb}
 use Rattle.areas.specs.Interval.{Interval, interval}

@@ -1,15 +1,15 @@
 -- Two entries that overlap or touch, and their union, as facts on addresses. Assumes nothing.
-use mathlib.Core.Path.{_≡_, refl, sym, _∙_}
+use mathlib.Core.Path.{_≡_, refl}
 use mathlib.Core.Bool.{Bool, true, false, cond, _&&_}
 use mathlib.Core.Logic.{_⊎_, inl, inr, ⊎-elim, _↔_}
-use Prim.Native.Nat.{ℕ, _≤_, _<_, min, max}
+use Prim.Native.Nat.{ℕ, _≤_, _<_}
 use native.Mathlib.Omega.{arith}
 use lib.Dec.{leb, ltb}
-use borrow.Author.Tests.{le-leb, lt-leb, leb-true, leb-false, lt-ltb, le-ltb, ltb-true, ltb-false}
+use borrow.Author.Tests.{le-leb, leb-true, leb-false, ltb-true, ltb-false}
 use Rattle.entry.specs.declared.MemoryEntry.{MemoryEntry}
 use Rattle.entry.specs.declared.FoundEntry.{FoundEntry}
 use Rattle.entry.specs.declared.FoundEntry.the-variants.{Entry, Nothing}
-use Rattle.entry.specs.Entry.{Has, overlap, meet, Touch, touching, union, join}
+use Rattle.entry.specs.Entry.{Has, overlap, meet, Touch, union, join}
 
 -- the two ways that a cut goes
 pub data Meets (a b : MemoryEntry) : FoundEntry → Type 0 where

@@ -1,6 +1,5 @@
 -- What a caller asks to register, and the pages that this covers: document 01, "Rounding and the map".
-use mathlib.Core.Path.{_≡_}
-use mathlib.Core.Bool.{Bool, cond}
+use mathlib.Core.Bool.{cond}
 use Prim.Native.Nat.{ℕ}
 use lib.Dec.{eqb}
 use Rattle.page.specs.Round.{down, up, ending}

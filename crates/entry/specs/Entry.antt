@@ -1,5 +1,4 @@
 -- Two entries: what they share, and what they make when nothing lies between them.
-use mathlib.Core.Path.{_≡_}
 use mathlib.Core.Bool.{Bool, cond, _&&_}
 use Prim.Native.Nat.{ℕ, _≤_, _<_, min, max}
 use lib.Dec.{leb, ltb}

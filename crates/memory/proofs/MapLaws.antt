@@ -1,11 +1,10 @@
 -- What a registration keeps: every call makes a map again, and a refused one leaves it as it was. For every page size p. Assumes nothing.
-use mathlib.Core.Path.{_≡_, refl, ap, sym, _∙_}
+use mathlib.Core.Path.{_≡_, refl, sym, _∙_}
 use mathlib.Core.Bool.{Bool, true, false, cond, _||_}
-use mathlib.Core.Logic.{_⊎_, inl, inr}
-use Prim.Native.Nat.{ℕ, zero, suc, _+_, _-_, _<_, _≤_, min, max}
+use Prim.Native.Nat.{ℕ, suc, _+_, _-_, _<_, _≤_, min, max}
 use native.Mathlib.Omega.{arith}
 use lib.Dec.{leb, eqb}
-use lib.ListN.{length, length-replicate}
+use lib.ListN.{length-replicate}
 use borrow.Author.Tests.{le-leb, lt-leb, leb-true, leb-false, eq-eqb, ne-eqb, eqb-true, eqb-false}
 use Rattle.page.specs.Round.{Aligned, Page}
 use Rattle.entry.specs.declared.MemoryEntry.{MemoryEntry}
@@ -14,7 +13,7 @@ use Rattle.entry.specs.declared.KindRead.the-variants.{Known, Unknown}
 use Rattle.entry.specs.declared.BootloaderMemoryKind.{BootloaderMemoryKind}
 use Rattle.entry.specs.declared.BootloaderMemoryKind.the-variants.{Null}
 use Rattle.entry.specs.Kind.{numberOf, IsKind, kindOf}
-use Rattle.entry.specs.Entry.{Touch, union}
+use Rattle.entry.specs.Entry.{union}
 use Rattle.entry.specs.Claim.{Claim, rounded}
 use Rattle.entry.proofs.KindLaws.{Reads, known, unknown, reads}
 use Rattle.entry.proofs.EntryLaws.{touch-sym, union-apart}
@@ -22,7 +21,7 @@ use Rattle.entry.proofs.ClaimLaws.{rounded-kind, rounded-from, rounded-to, roun
 use Rattle.memory.specs.declared.MemoryMap.{MemoryMap}
 use Rattle.memory.specs.declared.Answer.the-variants.{Done, UnknownKind, MapFull}
 use Rattle.memory.specs.declared.Registered.{Registered}
-use Rattle.memory.specs.Map.{Slots, slotsOf, at, put, refilled, blank, answered, Absorbs, Pass, look, pass, begin, ended, placed, inserted, nothing, judged, registered}
+use Rattle.memory.specs.Map.{slotsOf, at, put, refilled, blank, answered, Absorbs, Pass, look, pass, begin, ended, placed, inserted, Something, nothing, judged, registered}
 use Rattle.memory.specs.Made.{Full, Good, Made}
 use Rattle.memory.proofs.SlotLaws.{from, from-below, from-other, from-apart, at-or-not, full-put, at-put-same, at-put-other, at-moved}
 use Rattle.memory.proofs.PassLaws.{here, absorbing, passing, look-ways, pass-keeps}
@@ -121,7 +120,10 @@ going-passing p k s n g =
           (λ d. g .done j (omega arith));
     }
 
-going-begin : (p : ℕ) (m : MemoryMap) (e : MemoryEntry) → Made p m → Good p e → Going p (m .size) (begin m e)
+pub going-look : (p k : ℕ) (s : Pass) → Going p (suc k) s → Going p k (look k s)
+going-look p k s h = look-ways k s (λ r. Going p k r) (λ t. going-absorbing p k s t h) (λ n. going-passing p k s n h)
+
+pub going-begin : (p : ℕ) (m : MemoryMap) (e : MemoryEntry) → Made p m → Good p e → Going p (m .size) (begin m e)
 unfolding begin
 going-begin p m e g new =
     record {
@@ -134,10 +136,7 @@ going-begin p m e g new =
     }
 
 pub going-end : (p : ℕ) (m : MemoryMap) (e : MemoryEntry) → Made p m → Good p e → Going p 0 (pass (m .size) (begin m e))
-going-end p m e g new =
-    pass-keeps (Going p)
-    (λ k s h. look-ways k s (λ r. Going p k r) (λ t. going-absorbing p k s t h) (λ n. going-passing p k s n h))
-    (m .size) (begin m e) (going-begin p m e g new)
+going-end p m e g new = pass-keeps (Going p) (going-look p) (m .size) (begin m e) (going-begin p m e g new)
 
 made-ended : (p : ℕ) (m : MemoryMap) (s : Pass) → s .index < 512 → Going p 0 s → Made p (ended m s)
 unfolding ended
@@ -170,13 +169,6 @@ placed-ways m s P f g = go (leb 512 (s .index)) refl
     go : (t : Bool) → leb 512 (s .index) ≡ t → P (cond t (answered m MapFull) (answered (ended m s) Done))
     go true e = f (leb-true _ _ e)
     go false e = g (leb-false _ _ e)
-
--- a claim that registers something: of a known kind that is not Null, and not empty, before rounding and after
-pub record Something (p : ℕ) (c : Claim) : Type 0 where
-  pub known : IsKind (c .kind)
-  pub proper : c .kind ≡ numberOf Null → ⊥
-  pub sized : c .size ≡ 0 → ⊥
-  pub some : rounded p c .start < rounded p c .end
 
 -- the three ways that a registration goes
 pub data Way (p : ℕ) (m : MemoryMap) (c : Claim) : Registered → Type 0 where

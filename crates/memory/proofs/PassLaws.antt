@@ -4,13 +4,13 @@ use mathlib.Core.Bool.{Bool, true, false, cond}
 use Prim.Native.Nat.{ℕ, zero, suc, _+_, _-_, _<_, _≤_}
 use native.Mathlib.Omega.{arith}
 use lib.Dec.{eqb}
-use borrow.Author.Tests.{eq-eqb, ne-eqb, eqb-true, eqb-false}
+use borrow.Author.Tests.{eqb-true, eqb-false}
 use Rattle.entry.specs.declared.MemoryEntry.{MemoryEntry}
 use Rattle.entry.specs.declared.FoundEntry.{FoundEntry}
 use Rattle.entry.specs.declared.FoundEntry.the-variants.{Entry, Nothing}
-use Rattle.entry.specs.Entry.{Touch, union, join}
+use Rattle.entry.specs.Entry.{union, join}
 use Rattle.entry.proofs.EntryLaws.{Joins, one, two, joins}
-use Rattle.memory.specs.Map.{Slots, at, put, Absorbs, absorb, Pass, step, look, pass}
+use Rattle.memory.specs.Map.{at, put, Absorbs, absorb, Pass, step, look, pass}
 
 -- the two ways that a new entry meets a held one
 pub data Meeting (new held : MemoryEntry) : FoundEntry → Type 0 where

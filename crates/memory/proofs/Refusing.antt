@@ -1,8 +1,7 @@
 -- An answer that is not done, as a match on it tells: by its place among the cases. Assumes nothing.
 use mathlib.Core.Path.{_≡_, refl}
-use mathlib.Core.Bool.{true, false}
-use mathlib.Core.Logic.{_⊎_, inl, inr, ⊎-elim}
-use Prim.Native.Nat.{ℕ}
+use mathlib.Core.Bool.{false}
+use mathlib.Core.Logic.{_⊎_, ⊎-elim}
 use native.Mathlib.Omega.{arith}
 use denote.Enum.Declared
 use Rattle.memory.specs.declared.Answer.{Answer}

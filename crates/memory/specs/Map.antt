@@ -2,7 +2,7 @@
 use mathlib.Core.Path.{_≡_}
 use mathlib.Core.Bool.{Bool, cond, _||_}
 use mathlib.Core.List.{List}
-use Prim.Native.Nat.{ℕ, zero, suc, _+_}
+use Prim.Native.Nat.{ℕ, zero, suc, _+_, _<_}
 use lib.Dec.{leb, eqb}
 use lib.ListN.{getD, set, replicate}
 use Rattle.entry.specs.declared.MemoryEntry.{MemoryEntry}
@@ -11,7 +11,7 @@ use Rattle.entry.specs.declared.FoundEntry.the-variants.{Entry, Nothing}
 use Rattle.entry.specs.declared.KindRead.{KindRead}
 use Rattle.entry.specs.declared.KindRead.the-variants.{Known, Unknown}
 use Rattle.entry.specs.declared.BootloaderMemoryKind.the-variants.{Null}
-use Rattle.entry.specs.Kind.{numberOf, kindOf}
+use Rattle.entry.specs.Kind.{numberOf, IsKind, kindOf}
 use Rattle.entry.specs.Entry.{entry, Touch, join}
 use Rattle.entry.specs.Claim.{Claim, rounded}
 use Rattle.memory.specs.declared.MemoryMap.{MemoryMap}
@@ -105,6 +105,13 @@ placed m s = cond (leb 512 (s .index)) (answered m MapFull) (answered (ended m s
 
 unfoldable pub inserted : MemoryMap → MemoryEntry → Registered
 inserted m e = placed m (pass (m .size) (begin m e))
+
+-- a claim that registers something: "nonempty", before rounding and after, and of one of the seven kinds but Null
+pub record Something (p : ℕ) (c : Claim) : Type 0 where
+  pub known : IsKind (c .kind)
+  pub proper : c .kind ≡ numberOf Null → ⊥
+  pub sized : c .size ≡ 0 → ⊥
+  pub some : rounded p c .start < rounded p c .end
 
 -- "Null or size 0 registers nothing." "Empty after rounding: done, and nothing happens."
 unfoldable pub nothing : ℕ → Claim → Bool

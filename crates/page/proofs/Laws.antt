@@ -1,19 +1,8 @@
 -- The laws of rounding, once for every page size p that divides 2^64: what callers use instead of the text of the definitions.
 -- Assumes nothing.
-use mathlib.Core.Path.{_≡_, refl, ap, sym, _∙_}
-use mathlib.Core.Logic.{⊎-elim}
-use Prim.Native.Nat.{ℕ, suc, _+_, _-_, _*_, _/_, _%_, _^_, _≤_, _<_, min}
-use native.Mathlib.Nat.{
-  div-add-mod',
-  le-div-iff-mul-le,
-  div-mul-le-self,
-  lt-div-mul-add,
-  mul-le-mul-right,
-  mul-mod-left,
-  mod-eq-sub-mod,
-  suc-mul,
-  lt-of-mul-lt-mul-right,
-}
+use mathlib.Core.Path.{_≡_, refl, sym, _∙_}
+use Prim.Native.Nat.{ℕ, suc, _+_, _-_, _*_, _/_, _^_, _≤_, _<_, min}
+use native.Mathlib.Nat.{div-add-mod', le-div-iff-mul-le, div-mul-le-self, lt-div-mul-add, mul-le-mul-right, mul-mod-left, mod-eq-sub-mod, suc-mul, lt-of-mul-lt-mul-right}
 use native.Mathlib.Omega.{arith}
 use mathlib.Core.Bool.{Bool, true, false}
 use lib.Dec.{leb, lit<, lit≤}

@@ -1,7 +1,6 @@
 -- `all_known` judges the entries in turn. The invariant: what is left to judge decides.
-use mathlib.Core.Path.{_≡_, refl, ap, sym, _∙_}
-use mathlib.Core.Bool.{true, false}
-use Prim.Native.Nat.{ℕ, _≤_, _<_, _-_, _*_, _/_}
+use mathlib.Core.Path.{_≡_, ap, sym, _∙_}
+use Prim.Native.Nat.{ℕ, _≤_, _-_, _*_, _/_}
 use native.Mathlib.Omega.{arith}
 use lib.ListN.{length}
 use denote.Ref.{now}
@@ -11,10 +10,6 @@ use Rattle.bootloader.specs.List.{isKnown, allOf, claimsAt, allKnown}
 use Rattle.bootloader.proofs.ListLaws.{known-done, known-step, known-stop}
 use Rattle.bootloader.proofs.all_known.Statement.{statement}
 use Rattle.bootloader.proofs.all_known.Tie as tie
-use Rattle.bootloader.proofs.all_known.Reads as reads
-use Rattle.bootloader.proofs.all_known.Lts as lts
-use Rattle.entry.proofs.kind_of.Reads as kind-of-reads
-use Rattle.bootloader.proofs.word_at.Reads as word-at-reads
 
 abbrev Inv-loop : tie.InvT-loop
 Inv-loop list n i₀ i = (i ≤ n) × (n * 24 ≤ length list) × (allOf (claimsAt list (n - i) i) ≡ allKnown list)

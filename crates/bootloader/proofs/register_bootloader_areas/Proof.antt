@@ -1,6 +1,6 @@
 -- `register_bootloader_areas` judges all kinds, registers on a copy, and hands back the caller's map where that is refused.
 use mathlib.Core.Path.{_≡_, ap, sym, _∙_}
-use mathlib.Core.Bool.{true, false}
+use mathlib.Core.Bool.{true}
 use denote.Ref.{now}
 use borrow.Author.Needs.{needs}
 use borrow.Author.Tests.{not-true, not-false}
@@ -13,10 +13,6 @@ use Rattle.memory.proofs.RunLaws.{settled-done, settled-refused}
 use Rattle.memory.proofs.Refusing.{refused}
 use Rattle.bootloader.proofs.register_bootloader_areas.Statement.{statement}
 use Rattle.bootloader.proofs.register_bootloader_areas.Tie as tie
-use Rattle.bootloader.proofs.register_bootloader_areas.Reads as reads
-use Rattle.bootloader.proofs.register_bootloader_areas.Lts as lts
-use Rattle.bootloader.proofs.all_known.Reads as all-known-reads
-use Rattle.bootloader.proofs.register_list_in.Reads as register-list-in-reads
 
 all-known-requires : tie.Need-all-known-requires
 all-known-requires c κs = search needs

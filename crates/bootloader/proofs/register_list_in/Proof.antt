@@ -1,6 +1,6 @@
 -- `register_list_in` registers the entries in turn. The invariant: what is left to register, on the arrays as they are, ends as the whole list does.
-use mathlib.Core.Path.{_≡_, refl, ap, sym, _∙_}
-use Prim.Native.Nat.{ℕ, _≤_, _<_, _-_, _*_, _/_}
+use mathlib.Core.Path.{_≡_, ap, sym, _∙_}
+use Prim.Native.Nat.{ℕ, _≤_, _-_, _*_, _/_}
 use native.Mathlib.Omega.{arith}
 use lib.ListN.{length}
 use denote.Ref.{now}
@@ -16,10 +16,6 @@ use Rattle.bootloader.proofs.ListLaws.{all-done, all-step, all-stop, on
 use Rattle.memory.proofs.Refusing.{refused}
 use Rattle.bootloader.proofs.register_list_in.Statement.{statement}
 use Rattle.bootloader.proofs.register_list_in.Tie as tie
-use Rattle.bootloader.proofs.register_list_in.Reads as reads
-use Rattle.bootloader.proofs.register_list_in.Lts as lts
-use Rattle.memory.proofs.register_in.Reads as register-in-reads
-use Rattle.bootloader.proofs.word_at.Reads as word-at-reads
 
 abbrev Inv-loop : tie.InvT-loop
 Inv-loop starts₀ ends₀ kinds₀ size list held₀ n i₀ starts ends kinds held i =

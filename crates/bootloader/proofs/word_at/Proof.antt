@@ -4,9 +4,6 @@ use borrow.Author.Needs.{needs}
 use Rattle.bootloader.specs.List.{word}
 use Rattle.bootloader.proofs.word_at.Statement.{statement}
 use Rattle.bootloader.proofs.word_at.Tie as tie
-use Rattle.bootloader.proofs.word_at.Reads as reads
-use Rattle.bootloader.proofs.word_at.Lts as lts
-use Rattle.bootloader.proofs.wide.Reads as wide-reads
 
 add-wide : tie.Need-add-wide
 add-wide c = search needs

@@ -1,6 +1,5 @@
 -- `kind_of` reads the kind that has the number. Each arm of the match cites one law at its kind.
 use native.Mathlib.Omega.{arith}
-use Rattle.entry.specs.Kind.{numberOf, IsKind}
 use Rattle.entry.specs.declared.BootloaderMemoryKind.the-variants.{Null, Free, Reclaim, Reserved, Kernel, Device, IdentityMap}
 use Rattle.entry.proofs.KindLaws.{known-at, unknown-at, none-of}
 use Rattle.entry.proofs.kind_of.Statement.{statement}

@@ -1,16 +1,11 @@
 -- `round` rounds a claim by its kind.
-use mathlib.Core.Path.{_≡_, sym}
+use mathlib.Core.Path.{sym}
 use native.Mathlib.Omega.{arith}
 use borrow.Author.Needs.{needs}
 use Rattle.entry.specs.Claim.{inward, outward}
 use Rattle.entry.proofs.ClaimLaws.{free-inward, other-outward}
 use Rattle.entry.proofs.round.Statement.{statement}
 use Rattle.entry.proofs.round.Tie as tie
-use Rattle.entry.proofs.round.Reads as reads
-use Rattle.entry.proofs.round.Lts as lts
-use Rattle.page.proofs.align_down.Reads as align-down-reads
-use Rattle.page.proofs.align_up.Reads as align-up-reads
-use Rattle.page.proofs.saturating_add.Reads as saturating-add-reads
 
 -- src/lib.rt:116:9
 saturating-add-requires : tie.Need-saturating-add-requires

@@ -4,8 +4,6 @@ use mathlib.Core.Bool.{Bool, true, false, cond, not}
 use borrow.Author.Tests.{eq-eqb, ne-eqb}
 use Rattle.listing.proofs.is_wanted.Statement.{statement}
 use Rattle.listing.proofs.is_wanted.Tie as tie
-use Rattle.listing.proofs.is_wanted.Reads as reads
-use Rattle.listing.proofs.is_wanted.Lts as lts
 
 same : (w : Bool) → w ≡ cond w true (not true)
 same true = refl

@@ -1,18 +1,15 @@
 -- `kernel` looks at the held entries in turn. The invariant: what is left to look at decides.
 use mathlib.Core.Path.{_≡_, sym, _∙_}
-use Prim.Native.Nat.{ℕ, _≤_, _<_, _-_}
+use Prim.Native.Nat.{ℕ, _≤_, _-_}
 use native.Mathlib.Omega.{arith}
 use lib.Dec.{eqb}
 use borrow.Author.Needs.{needs}
 use borrow.Author.Tests.{eq-eqb, ne-eqb}
 use Rattle.memory.specs.Map.{at, slotsOf}
-use Rattle.memory.specs.Made.{Made}
 use Rattle.listing.specs.Listing.{entriesFrom, first, firstOf}
 use Rattle.listing.proofs.ListingLaws.{first-done, first-takes, first-leaves}
 use Rattle.listing.proofs.kernel.Statement.{statement}
 use Rattle.listing.proofs.kernel.Tie as tie
-use Rattle.listing.proofs.kernel.Reads as reads
-use Rattle.listing.proofs.kernel.Lts as lts
 
 abbrev Inv-loop : tie.InvT-loop
 Inv-loop map i₀ i =

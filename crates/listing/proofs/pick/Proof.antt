@@ -1,20 +1,13 @@
 -- `pick` goes over the held entries in turn. The invariant: what is left to go over, laid where we are, ends as the whole does.
-use mathlib.Core.Path.{_≡_, refl, ap, ap₂, sym, _∙_}
-use Prim.Native.Nat.{ℕ, _+_, _≤_, _<_, _-_}
-use native.Mathlib.Omega.{arith}
+use mathlib.Core.Path.{ap₂, sym, _∙_}
+use Prim.Native.Nat.{ℕ, _-_}
 use lib.ListN.{length}
 use borrow.Author.Needs.{needs}
-use Rattle.memory.specs.declared.MemoryMap.{MemoryMap}
 use Rattle.memory.specs.Map.{Slots, at, put, slotsOf, refilled, blank}
-use Rattle.memory.specs.Made.{Made}
-use Rattle.listing.specs.Listing.{held, entriesFrom, wants, those, laid, holding, picked}
+use Rattle.listing.specs.Listing.{held, wants, those, laid, holding, picked}
 use Rattle.listing.proofs.ListingLaws.{Picking, picking-begins, picking-takes, picking-leaves, picking-ends}
 use Rattle.listing.proofs.pick.Statement.{statement}
 use Rattle.listing.proofs.pick.Tie as tie
-use Rattle.listing.proofs.pick.Reads as reads
-use Rattle.listing.proofs.pick.Lts as lts
-use Rattle.memory.proofs.MemoryMap.empty.Reads as empty-reads
-use Rattle.listing.proofs.is_wanted.Reads as is-wanted-reads
 
 abbrev Inv-loop : tie.InvT-loop
 Inv-loop kind wanted map out₀ n₀ i₀ out n i =

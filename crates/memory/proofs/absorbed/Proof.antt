@@ -1,14 +1,9 @@
 -- `absorbed` combines two entries of one kind.
-use mathlib.Core.Path.{_≡_, sym}
-use native.Mathlib.Omega.{arith}
 use borrow.Author.Needs.{needs}
 use borrow.Author.Tests.{eq-eqb, ne-eqb}
 use Rattle.memory.specs.Map.{absorb}
 use Rattle.memory.proofs.absorbed.Statement.{statement}
 use Rattle.memory.proofs.absorbed.Tie as tie
-use Rattle.memory.proofs.absorbed.Reads as reads
-use Rattle.memory.proofs.absorbed.Lts as lts
-use Rattle.entry.proofs.MemoryEntry.combine.Reads as combine-reads
 
 returns : tie.Need-returns
 unfolding absorb

@@ -1,21 +1,17 @@
 -- `insert_in` is one pass over the held slots, and then the new entry goes last. The invariant: the pass from here ends as the whole pass does.
-use mathlib.Core.Path.{_≡_, refl, ap, sym, _∙_}
-use Prim.Native.Nat.{ℕ, _-_, _≤_, _<_}
+use mathlib.Core.Path.{_≡_, ap, sym, _∙_}
+use Prim.Native.Nat.{_-_, _≤_}
 use native.Mathlib.Omega.{arith}
 use denote.Ref.{now}
 use borrow.Author.Needs.{needs}
 use borrow.Author.Tests.{le-leb, lt-leb}
-use Rattle.entry.specs.declared.FoundEntry.the-variants.{Entry, Nothing}
 use Rattle.memory.specs.declared.MemoryMap.{MemoryMap}
 use Rattle.memory.specs.declared.Answer.the-variants.{MapFull}
-use Rattle.memory.specs.Map.{Pass, pass, begin, placed, ended, inserted, absorb, at, put, mapOf, slotsAs, answered}
+use Rattle.memory.specs.Map.{Pass, pass, begin, placed, ended, inserted, at, put, mapOf, slotsAs, answered}
 use Rattle.memory.proofs.PassLaws.{pass-absorbs, pass-passes, pass-done}
 use Rattle.memory.proofs.MapLaws.{refused-whole}
 use Rattle.memory.proofs.insert_in.Statement.{statement}
 use Rattle.memory.proofs.insert_in.Tie as tie
-use Rattle.memory.proofs.insert_in.Reads as reads
-use Rattle.memory.proofs.insert_in.Lts as lts
-use Rattle.memory.proofs.absorbed.Reads as absorbed-reads
 
 abbrev Inv-loop : tie.InvT-loop
 Inv-loop starts₀ ends₀ kinds₀ size new₀ n₀ index₀ starts ends kinds new n index =

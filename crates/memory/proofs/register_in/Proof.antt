@@ -1,16 +1,10 @@
 -- `register_in` judges the kind, passes over what registers nothing, and inserts the rounded range.
-use mathlib.Core.Path.{_≡_, sym, _∙_}
+use mathlib.Core.Path.{sym, _∙_}
 use native.Mathlib.Omega.{arith}
 use borrow.Author.Needs.{needs}
-use Rattle.memory.specs.Made.{Made}
 use Rattle.memory.proofs.MapLaws.{unknown-registered, null-registered, none-registered, empty-registered, some-registered}
 use Rattle.memory.proofs.register_in.Statement.{statement}
 use Rattle.memory.proofs.register_in.Tie as tie
-use Rattle.memory.proofs.register_in.Reads as reads
-use Rattle.memory.proofs.register_in.Lts as lts
-use Rattle.entry.proofs.kind_of.Reads as kind-of-reads
-use Rattle.entry.proofs.round.Reads as round-reads
-use Rattle.memory.proofs.insert_in.Reads as insert-in-reads
 
 kind-of-requires : tie.Need-kind-of-requires
 kind-of-requires c κs = search needs

@@ -1,12 +1,7 @@
 -- `register_memory_region` registers by the kind's number.
-use mathlib.Core.Path.{_≡_}
 use borrow.Author.Needs.{needs}
 use Rattle.memory.proofs.register_memory_region.Statement.{statement}
 use Rattle.memory.proofs.register_memory_region.Tie as tie
-use Rattle.memory.proofs.register_memory_region.Reads as reads
-use Rattle.memory.proofs.register_memory_region.Lts as lts
-use Rattle.entry.proofs.BootloaderMemoryKind.number.Reads as number-reads
-use Rattle.memory.proofs.MemoryMap.register.Reads as register-reads
 
 number-requires : tie.Need-number-requires
 number-requires c κs = search needs

@@ -1,15 +1,10 @@
 -- `MemoryEntry::combine` gives the union exactly where nothing lies between the two.
-use mathlib.Core.Path.{_≡_, _∙_}
 use native.Mathlib.Omega.{arith}
 use borrow.Author.Needs.{needs}
-use Rattle.entry.specs.Entry.{Touch, union}
+use Rattle.entry.specs.Entry.{union}
 use Rattle.entry.proofs.EntryLaws.{touch-joins, gap-joins}
 use Rattle.entry.proofs.MemoryEntry.combine.Statement.{statement}
 use Rattle.entry.proofs.MemoryEntry.combine.Tie as tie
-use Rattle.entry.proofs.MemoryEntry.combine.Reads as reads
-use Rattle.entry.proofs.MemoryEntry.combine.Lts as lts
-use Rattle.entry.proofs.greater.Reads as greater-reads
-use Rattle.entry.proofs.lesser.Reads as lesser-reads
 
 -- src/lib.rt:100:13
 returns : tie.Need-returns

@@ -1,5 +1,4 @@
 -- `MemoryEntry::intersect` gives the overlap exactly where it is not empty.
-use mathlib.Core.Path.{_≡_, refl}
 use native.Mathlib.Omega.{arith}
 use borrow.Author.Needs.{needs}
 use borrow.Author.Tests.{lt-ltb, le-ltb}
@@ -7,10 +6,6 @@ use Prim.Native.Nat.{_<_, _≤_, min, max}
 use Rattle.entry.specs.Entry.{overlap, meet}
 use Rattle.entry.proofs.MemoryEntry.intersect.Statement.{statement}
 use Rattle.entry.proofs.MemoryEntry.intersect.Tie as tie
-use Rattle.entry.proofs.MemoryEntry.intersect.Reads as reads
-use Rattle.entry.proofs.MemoryEntry.intersect.Lts as lts
-use Rattle.entry.proofs.greater.Reads as greater-reads
-use Rattle.entry.proofs.lesser.Reads as lesser-reads
 
 -- src/lib.rt:86:13
 greater-requires : tie.Need-greater-requires

@@ -3,8 +3,6 @@ use mathlib.Core.Path.{refl}
 use Rattle.memory.specs.Map.{blank}
 use Rattle.memory.proofs.MemoryMap.empty.Statement.{statement}
 use Rattle.memory.proofs.MemoryMap.empty.Tie as tie
-use Rattle.memory.proofs.MemoryMap.empty.Reads as reads
-use Rattle.memory.proofs.MemoryMap.empty.Lts as lts
 
 returns : tie.Need-returns
 unfolding blank
