@@ -7,7 +7,6 @@ use native.Mathlib.Omega.{arith}
 use Rattle.page.specs.Round.{Page}
 use Rattle.entry.specs.declared.KindRead.{KindRead}
 use Rattle.entry.specs.Kind.{kindOf}
-use Rattle.entry.specs.Claim.{Claim}
 use Rattle.memory.specs.declared.MemoryMap.{MemoryMap}
 use Rattle.memory.specs.declared.Answer.the-variants.{Done, UnknownKind}
 use Rattle.memory.specs.declared.Registered.{Registered}
@@ -15,7 +14,6 @@ use Rattle.memory.specs.Map.{answered, registered}
 use Rattle.memory.specs.Made.{Made}
 use Rattle.memory.specs.Run.{isDone, registeredAll, settled}
 use Rattle.bootloader.specs.List.{claimAt, claimsAt, isKnown, allOf, allKnown, claims, listed}
-use Rattle.memory.proofs.MapLaws.{registered-made}
 use Rattle.memory.proofs.RunLaws.{cond-made, all-made, settled-made}
 
 more : (n i : ℕ) → i < n → n - i ≡ suc (n - (i + 1))
@@ -51,9 +49,6 @@ pub all-stop : (p : ℕ) (m : MemoryMap) (l : List ℕ) (n i : ℕ) (r : Registe
     → registeredAll p m (claimsAt l (n - i) i) ≡ r
 unfolding registeredAll claimsAt
 all-stop p m l n i r h e a = rw (more n i h, ← e, a)
-
-pub one-made : (p : ℕ) (m : MemoryMap) (c : Claim) (r : Registered) → Page p → r ≡ registered p m c → Made p m → Made p (r .map)
-one-made p m c r g e h = rw e (registered-made p m c g h)
 
 pub listed-unknown : (p : ℕ) (m : MemoryMap) (l : List ℕ) → allKnown l ≡ false → listed p m l ≡ answered m UnknownKind
 unfolding listed

@@ -253,6 +253,10 @@ registered-made p m c g h = go (registered p m c) (registered-way p m c)
     go r (no-page i n) = h
     go r (new-page s) = inserted-made p m _ h (rounded-good p c g s)
 
+-- the same, for whoever has a result in hand
+pub one-made : (p : ℕ) (m : MemoryMap) (c : Claim) (r : Registered) → Page p → r ≡ registered p m c → Made p m → Made p (r .map)
+one-made p m c r g e h = rw e (registered-made p m c g h)
+
 -- and so does making one empty
 pub blank-made : (p : ℕ) → Made p blank
 unfolding blank

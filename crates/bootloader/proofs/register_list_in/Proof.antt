@@ -12,7 +12,8 @@ use Rattle.memory.specs.Map.{mapOf, left, registered}
 use Rattle.memory.specs.Made.{Made}
 use Rattle.memory.specs.Run.{isDone, registeredAll}
 use Rattle.bootloader.specs.List.{claimsAt, claimAt}
-use Rattle.bootloader.proofs.ListLaws.{all-done, all-step, all-stop, one-made}
+use Rattle.bootloader.proofs.ListLaws.{all-done, all-step, all-stop}
+use Rattle.memory.proofs.MapLaws.{one-made}
 use Rattle.memory.proofs.Refusing.{refused}
 use Rattle.bootloader.proofs.register_list_in.Statement.{statement}
 use Rattle.bootloader.proofs.register_list_in.Tie as tie

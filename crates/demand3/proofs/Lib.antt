@@ -1,0 +1,3 @@
+pub mod Demand
+pub mod Refusal
+pub mod Edges
