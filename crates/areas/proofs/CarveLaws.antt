@@ -59,7 +59,7 @@ module _ (r : Interval) (s e : ℕ) (solid : r .lo < r .hi) (some : s < e) where
       (le-or-lt (r .hi) s))
       (le-or-lt e (r .lo))
 
-pub out-of : (x : ℕ) (r : Interval) → (Inside x r → ⊥) → (x < r .lo) ⊎ (r .hi ≤ x)
+out-of : (x : ℕ) (r : Interval) → (Inside x r → ⊥) → (x < r .lo) ⊎ (r .hi ≤ x)
 out-of x r f = ⊎-elim (λ (p : r .lo ≤ x). ⊎-elim (λ (q : r .hi ≤ x). inr q) (λ (q : x < r .hi). absurd (f (p, q))) (le-or-lt (r .hi) x)) (λ (p : x < r .lo). inl p) (le-or-lt (r .lo) x)
 
 -- of x: the list l holds it only where [s, e) does and no interval of rs does; and holds it where [s, e) does and no interval of all does
@@ -105,7 +105,7 @@ module _ (x : ℕ) (all : List Interval) (k : ℕ) (left : ℕ → ℕ → List 
       after-right r rs s e (solid .0) some deep sub (λ a b. walk left rs a b)
       (λ a b ab dp. walk-right rs a b ab dp (solid .1) (λ i. sub (inr i))) (cutBy r s e) (cutOf r s e (solid .0) some)
 
-pub carveBy-right : (x : ℕ) (k : ℕ) (all : List Interval) (s e : ℕ) → Solid all → s < e → e ≤ s + k → Right x all all s e (carveBy k all s e)
+carveBy-right : (x : ℕ) (k : ℕ) (all : List Interval) (s e : ℕ) → Solid all → s < e → e ≤ s + k → Right x all all s e (carveBy k all s e)
 unfolding carveBy
 carveBy-right x zero all s e solid some deep = absurd (omega arith)
 carveBy-right x (suc k) all s e solid some deep =
@@ -126,7 +126,7 @@ pub chain-wider : (l : List Interval) (a b c d : ℕ) → c ≤ a → b ≤ d �
 chain-wider [] a b c d p q h = tt
 chain-wider (r ∷ l) a b c d p q h = (omega arith, h .1, omega arith, chain-wider l (suc (r .hi)) b (suc (r .hi)) d (le-refl (suc (r .hi))) q (h .3))
 
-pub chain-append : (l m : List Interval) (a b c d : ℕ) → a ≤ c → b < c → b ≤ d → Chain a b l → Chain c d m → Chain a d (l ++ m)
+chain-append : (l m : List Interval) (a b c d : ℕ) → a ≤ c → b < c → b ≤ d → Chain a b l → Chain c d m → Chain a d (l ++ m)
 chain-append [] m a b c d ac bc bd h k = chain-wider m c d a d ac (le-refl d) k
 chain-append (r ∷ l) m a b c d ac bc bd h k = (h .0, h .1, omega arith, chain-append l m (suc (r .hi)) b c d (omega arith) bc bd (h .3) k)
 
@@ -146,7 +146,7 @@ module _ (s₀ e₀ : ℕ) (left : ℕ → ℕ → List Interval) (left-ok : (a 
   walk-chain (r ∷ rs) s e some lo hi solid =
       after-chain r s e (solid .0) some lo hi (λ a b. walk left rs a b) (λ a b ab al bh. walk-chain rs a b ab al bh (solid .1)) (cutBy r s e) (cutOf r s e (solid .0) some)
 
-pub carveBy-chain : (k : ℕ) (all : List Interval) (s e : ℕ) → Solid all → s < e → e ≤ s + k → Chain s e (carveBy k all s e)
+carveBy-chain : (k : ℕ) (all : List Interval) (s e : ℕ) → Solid all → s < e → e ≤ s + k → Chain s e (carveBy k all s e)
 unfolding carveBy
 carveBy-chain zero all s e solid some deep = tt
 carveBy-chain (suc k) all s e solid some deep =
@@ -168,13 +168,13 @@ module _ (s₀ e₀ : ℕ) (left left′ : ℕ → ℕ → List Interval) (same 
   after-same r s e solid some lo hi go go′ ok c (is-split p q) =
       ap₂ (λ (l m : List Interval). l ++ m) (same s (r .lo) p lo (omega arith)) (ok (r .hi) e q (omega arith) hi)
 
-  pub walk-same : (rs : List Interval) (s e : ℕ) → s < e → s₀ ≤ s → e ≤ e₀ → Solid rs → walk left rs s e ≡ walk left′ rs s e
+  walk-same : (rs : List Interval) (s e : ℕ) → s < e → s₀ ≤ s → e ≤ e₀ → Solid rs → walk left rs s e ≡ walk left′ rs s e
   unfolding walk
   walk-same [] s e some lo hi solid = refl
   walk-same (r ∷ rs) s e some lo hi solid =
       after-same r s e (solid .0) some lo hi (λ a b. walk left rs a b) (λ a b. walk left′ rs a b) (λ a b ab al bh. walk-same rs a b ab al bh (solid .1)) (cutBy r s e) (cutOf r s e (solid .0) some)
 
-pub carveBy-same : (k j : ℕ) (all : List Interval) (s e : ℕ) → Solid all → s < e → e ≤ s + k → e ≤ s + j → carveBy k all s e ≡ carveBy j all s e
+carveBy-same : (k j : ℕ) (all : List Interval) (s e : ℕ) → Solid all → s < e → e ≤ s + k → e ≤ s + j → carveBy k all s e ≡ carveBy j all s e
 unfolding carveBy
 carveBy-same zero j all s e solid some deep deep′ = absurd (omega arith)
 carveBy-same (suc k) zero all s e solid some deep deep′ = absurd (omega arith)
@@ -182,7 +182,7 @@ carveBy-same (suc k) (suc j) all s e solid some deep deep′ =
     walk-same s e (λ a b. carveBy k all a b) (λ a b. carveBy j all a b) (λ a b ab sa be. carveBy-same k j all a b solid ab (omega arith) (omega arith)) all s e some (le-refl s) (le-refl e) solid
 
 -- carve at any depth that is enough
-pub carve-by : (k : ℕ) (all : List Interval) (s e : ℕ) → Solid all → s < e → e ≤ s + k → carve all s e ≡ carveBy k all s e
+carve-by : (k : ℕ) (all : List Interval) (s e : ℕ) → Solid all → s < e → e ≤ s + k → carve all s e ≡ carveBy k all s e
 unfolding carve
 carve-by k all s e solid some deep = carveBy-same (e - s) k all s e solid some (omega arith) deep
 

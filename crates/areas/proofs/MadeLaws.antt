@@ -25,7 +25,6 @@ use Rattle.areas.specs.Interval.{Interval, Listed, Ascending}
 use Rattle.areas.specs.Areas.{limitOf, span, freeOf, busyOf, areasIn, areasOf}
 use Rattle.areas.specs.Steps.{Solid, entriesOf}
 use Rattle.areas.proofs.Lists.{Every, every-map, every-weaker, le-or-lt}
-use Rattle.areas.proofs.Normal.{one-list}
 use Rattle.areas.proofs.SortLaws.{Off, Apart}
 use Rattle.areas.proofs.AreasLaws.{Sound, areas-ascend, areas-listed}
 use Rattle.areas.proofs.Edges.{Edged, CutTo, areas-edges}
@@ -151,16 +150,3 @@ module _ {p : ℕ} {m : MemoryMap} (made : Made p m) where
         (λ j h. ((made .each j h .from, omega (arith, made .each j h .some, made .each j h .low)), made .each j h .to))))
         (each-held (wants (numberOf Free) true) (CutTo (Aligned p) (Low p) (limitOf p low high))
         (λ j h. (max-min p _ _ (made .each j h .from) (up-aligned p _ g) .0, (max-min p _ _ (made .each j h .to) (down-aligned p _) .1, omega (arith, made .each j h .low))))))
-
--- two maps whose Free entries have the same addresses, and whose other entries have, have the same areas
-pub areasOf-same : {p : ℕ} {m m′ : MemoryMap} → Made p m → Made p m′
-    → ((x : ℕ) → LiesFree x m ↔ LiesFree x m′) → ((x : ℕ) → LiesBusy x m ↔ LiesBusy x m′)
-    → (low high : Limit) → areasOf p low high m ≡ areasOf p low high m′
-areasOf-same made made′ f b low high =
-    one-list _ _ (areasOf-ascends made low high) (areasOf-ascends made′ low high)
-    (λ x.
-    let r = areasOf-listed made low high x in
-    let r′ = areasOf-listed made′ low high x in (
-      λ i. let t = r .0 i in r′ .1 (f x .0 (t .0), t .1, t .2, λ j. t .3 (b x .1 j)),
-      λ i. let t = r′ .0 i in r .1 (f x .1 (t .0), t .1, t .2, λ j. t .3 (b x .0 j)),
-    ))

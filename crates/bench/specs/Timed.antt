@@ -1,0 +1,20 @@
+-- What the timed build answers.
+use mathlib.Core.Path.{_≡_}
+use mathlib.Core.List.{List}
+use Prim.Native.Nat.{ℕ}
+use Rattle.memory.specs.declared.MemoryMap.{MemoryMap}
+use Rattle.areas.specs.declared.Built.{Built}
+use Rattle.areas.specs.declared.Built.the-variants.{Done, TooManyAreas}
+use Rattle.areas.specs.declared.Limit.the-variants.{Missing}
+use Rattle.areas.specs.Areas.{areasOf}
+use Rattle.areas.specs.Table.{answerOf, tableOf}
+
+-- the number of areas, or 0 where they are too many
+abbrev pub countOf : Built → ℕ
+countOf (Done n) = n
+countOf TooManyAreas = 0
+
+-- a build without limits
+pub record BuildsFree (m : MemoryMap) (l l′ : List ℕ) (n : ℕ) : Type 0 where
+  pub count : n ≡ countOf (answerOf (areasOf 4096 Missing Missing m) l)
+  pub table : l′ ≡ tableOf (areasOf 4096 Missing Missing m) l

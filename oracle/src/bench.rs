@@ -1,0 +1,168 @@
+//! Times our compiled crates against the unchanged Rust, in one process and in alternating rounds.
+use crate::rust::{self, Claim, Entry};
+use crate::startup::memory::{held, hold, kind_of, register_list, register_memory_region};
+use std::hint::black_box;
+use std::time::{Duration, Instant};
+
+const PAGE: u64 = 4096;
+const FREE: u64 = 1;
+const RESERVED: u64 = 3;
+const ROUNDS: usize = 301;
+
+unsafe extern "C" {
+    fn bench_list(list: *const u8, bytes: usize) -> usize;
+    fn bench_register(
+        starts: *const u64,
+        ends: *const u64,
+        kinds: *const u64,
+        size: usize,
+        base: u64,
+        kind: u64,
+    ) -> usize;
+    fn bench_build(
+        starts: *const u64,
+        ends: *const u64,
+        kinds: *const u64,
+        size: usize,
+        slots: *mut u64,
+        len: usize,
+    ) -> usize;
+}
+
+/// The same work twice: each answers what it took, and a count that must be equal.
+struct Work {
+    name: &'static str,
+    rust: Box<dyn Fn() -> (Duration, usize)>,
+    ours: Box<dyn Fn() -> (Duration, usize)>,
+}
+
+fn timed(call: impl FnOnce() -> usize) -> (Duration, usize) {
+    let start = Instant::now();
+    let count = black_box(call());
+    (start.elapsed(), count)
+}
+
+fn map_of(claims: &[Claim]) -> Vec<Entry> {
+    hold(&[]);
+    assert_eq!(rust::register_all(claims, 0), rust::DONE);
+    held()
+}
+
+/// A map in the form that ours takes.
+struct Columns([[u64; 512]; 3], usize);
+
+fn columns(map: &[Entry]) -> Columns {
+    let mut all = Columns([[0; 512]; 3], map.len());
+    for (i, entry) in map.iter().enumerate() {
+        for (column, number) in all.0.iter_mut().zip(entry) {
+            column[i] = *number;
+        }
+    }
+    all
+}
+
+fn list(name: &'static str, claims: &[Claim]) -> Work {
+    let words = claims.concat();
+    let same = words.clone();
+    Work {
+        name,
+        rust: Box::new(move || {
+            hold(&[]);
+            let (took, _) = timed(|| {
+                register_list(&words, 8 * words.len());
+                0
+            });
+            (took, held().len())
+        }),
+        ours: Box::new(move || timed(|| unsafe { bench_list(same.as_ptr().cast(), 8 * same.len()) })),
+    }
+}
+
+/// One registration of a page in a full map, which is done or refused.
+fn single(name: &'static str, claims: &[Claim], base: u64, kind: u64, done: bool) -> Work {
+    let map = map_of(claims);
+    let Columns([starts, ends, kinds], size) = columns(&map);
+    let known = kind_of(kind).expect("a kind");
+    Work {
+        name,
+        rust: Box::new(move || {
+            hold(&map);
+            let (took, _) = timed(|| {
+                if done {
+                    register_memory_region(base as usize, PAGE as usize, known);
+                } else {
+                    assert_eq!(rust::register_only([base, PAGE, kind]), rust::MAP_FULL);
+                }
+                0
+            });
+            (took, held().len())
+        }),
+        ours: Box::new(move || {
+            timed(|| unsafe {
+                let (starts, ends, kinds) = (starts.as_ptr(), ends.as_ptr(), kinds.as_ptr());
+                bench_register(starts, ends, kinds, size, base, kind)
+            })
+        }),
+    }
+}
+
+fn build(name: &'static str, claims: &[Claim]) -> Work {
+    let map = map_of(claims);
+    let Columns([starts, ends, kinds], size) = columns(&map);
+    Work {
+        name,
+        rust: Box::new(move || {
+            hold(&map);
+            rust::time_build(512)
+        }),
+        ours: Box::new(move || {
+            let mut slots = [0; 1024];
+            timed(|| unsafe {
+                let (starts, ends, kinds) = (starts.as_ptr(), ends.as_ptr(), kinds.as_ptr());
+                bench_build(starts, ends, kinds, size, slots.as_mut_ptr(), slots.len())
+            })
+        }),
+    }
+}
+
+fn works() -> Vec<Work> {
+    let page = |i: u64, kind: u64| [i * PAGE, PAGE, kind];
+    let separate: Vec<Claim> = (0..512).map(|i| page(2 * i, FREE)).collect();
+    let whole = [0, 1024 * PAGE, FREE];
+    let holes: Vec<Claim> = (0..511).map(|i| page(2 * i + 1, RESERVED)).collect();
+    let ascending: Vec<Claim> = [&[whole], &holes[..]].concat();
+    let descending: Vec<Claim> = [whole].into_iter().chain(holes.into_iter().rev()).collect();
+    let halved: Vec<Claim> =
+        (0..256).flat_map(|i| [[4 * i * PAGE, 3 * PAGE, FREE], page(4 * i + 1, RESERVED)]).collect();
+    vec![
+        list("list of 512 separate entries, from empty", &separate),
+        single("a bridging registration, from a full map", &separate, PAGE, FREE, true),
+        single("a refused registration, in a full map (a)", &separate, 2000 * PAGE, RESERVED, false),
+        build("build: 512 Free", &separate),
+        build("build: 1 Free cut by 511, ascending", &ascending),
+        build("build: 1 Free cut by 511, descending", &descending),
+        build("build: 256 Free, each cut by one of 256", &halved),
+    ]
+}
+
+fn median(mut times: Vec<Duration>) -> f64 {
+    times.sort();
+    times[times.len() / 2].as_nanos() as f64
+}
+
+pub fn run() {
+    println!("{:<44} {:>10} {:>10} {:>7}", "nanoseconds a call, medians of 301 rounds", "Rust", "ours", "ratio");
+    for work in works() {
+        let (mut rust, mut ours) = (Vec::new(), Vec::new());
+        for _ in 0..ROUNDS {
+            let (took, count) = (work.rust)();
+            rust.push(took);
+            let (took, same) = (work.ours)();
+            ours.push(took);
+            assert_eq!(count, same, "{}", work.name);
+        }
+        let (rust, ours) = (median(rust), median(ours));
+        println!("{:<44} {rust:>10.0} {ours:>10.0} {:>7.2}", work.name, ours / rust);
+    }
+    println!("(a) where the Rust panics: its time has the unwinding, and catching it, in it");
+}

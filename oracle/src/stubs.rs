@@ -1,0 +1,150 @@
+//! What the unchanged memory.rs leans on, as far as it names it, and the file itself.
+
+pub mod arch {
+    #[derive(Clone, Copy)]
+    pub struct CurrentRmmArch;
+
+    impl rmm::Arch for CurrentRmmArch {
+        const PAGE_SHIFT: usize = 12;
+    }
+}
+
+pub mod memory {
+    use core::cell::{Cell, SyncUnsafeCell};
+    use rmm::MemoryArea;
+
+    pub const PAGE_SIZE: usize = 4096;
+
+    /// The kernel's table is an array in a static. This one is lent for a build, so that it can have any length.
+    pub struct LentAreas(Cell<*mut [MemoryArea]>);
+
+    // The harness has one thread.
+    unsafe impl Sync for LentAreas {}
+
+    impl LentAreas {
+        pub fn lend(&self, areas: *mut [MemoryArea]) {
+            self.0.set(areas);
+        }
+        pub fn get(&self) -> *mut [MemoryArea] {
+            self.0.get()
+        }
+    }
+
+    pub static AREAS: LentAreas = LentAreas(Cell::new(&mut []));
+    pub static AREA_COUNT: SyncUnsafeCell<u16> = SyncUnsafeCell::new(0);
+
+    pub fn areas() -> &'static [MemoryArea] {
+        unsafe { &(&*AREAS.get())[..AREA_COUNT.get().read().into()] }
+    }
+}
+
+pub mod startup {
+    pub mod memory {
+        include!("original/memory.rs");
+
+        // What the harness needs of the file's private items.
+        use crate::stubs::NonZeroPosition as _;
+
+        pub fn kind_of(number: u64) -> Option<BootloaderMemoryKind> {
+            use BootloaderMemoryKind::*;
+            [Null, Free, Reclaim, Reserved, Kernel, Device, IdentityMap]
+                .into_iter()
+                .find(|kind| *kind as u64 == number)
+        }
+
+        /// The held entries in order: start, end, kind.
+        pub fn held() -> Vec<[u64; 3]> {
+            let map = unsafe { &*MEMORY_MAP.get() };
+            map.iter().map(|e| [e.start as u64, e.end as u64, e.kind as u64]).collect()
+        }
+
+        /// Makes the map hold these entries.
+        pub fn hold(entries: &[[u64; 3]]) {
+            let map = unsafe { &mut *MEMORY_MAP.get() };
+            map.size = entries.len();
+            for (slot, &[start, end, kind]) in map.entries.iter_mut().zip(entries) {
+                let kind = kind_of(kind).expect("a held kind");
+                *slot = MemoryEntry { start: start as usize, end: end as usize, kind };
+            }
+        }
+
+        /// Hands over a bootloader list of so many bytes. The kinds in it must be known.
+        pub fn register_list(list: &[u64], bytes: usize) {
+            assert!(bytes <= size_of_val(list));
+            register_bootloader_areas(list.as_ptr() as usize, bytes);
+        }
+    }
+
+    #[derive(Default)]
+    pub struct KernelArgs {
+        pub kernel_base: u64,
+        pub kernel_size: u64,
+        pub stack_base: u64,
+        pub stack_size: u64,
+        pub env_base: u64,
+        pub env_size: u64,
+        pub hwdesc_base: u64,
+        pub hwdesc_size: u64,
+        pub areas_base: u64,
+        pub areas_size: u64,
+        pub bootstrap_base: u64,
+        pub bootstrap_size: u64,
+    }
+
+    impl KernelArgs {
+        /// Built without `--cfg dtb`: never called.
+        pub fn dtb(&self) -> Result<((), &'static [u8]), ()> {
+            Err(())
+        }
+    }
+}
+
+pub mod dtb {
+    pub fn register_fixed_reserved_memory_ranges(_tree: &(), _blob: &[u8]) {}
+    pub fn register_dev_memory_ranges(_tree: &()) {}
+}
+
+#[allow(non_snake_case)]
+pub mod kernel_executable_offsets {
+    pub fn __text_start() -> usize {
+        0
+    }
+    pub fn __text_end() -> usize {
+        0
+    }
+    pub fn __rodata_start() -> usize {
+        0
+    }
+    pub fn __rodata_end() -> usize {
+        0
+    }
+    pub fn KERNEL_OFFSET() -> usize {
+        0
+    }
+}
+
+pub mod devices {
+    pub mod graphical_debug {
+        pub struct Unlocked((usize, usize, usize));
+
+        impl Unlocked {
+            pub fn lock(&self) -> &(usize, usize, usize) {
+                &self.0
+            }
+        }
+
+        pub static FRAMEBUFFER: Unlocked = Unlocked((0, 0, 0));
+    }
+}
+
+/// The kernel's toolchain can step through a range of NonZeroU8, and ours cannot. Only `map_memory` does, past
+/// the point where the harness stops it.
+pub trait NonZeroPosition {
+    fn position(self, found: impl FnMut(core::num::NonZeroU8) -> bool) -> Option<usize>;
+}
+
+impl NonZeroPosition for core::ops::Range<core::num::NonZeroU8> {
+    fn position(self, found: impl FnMut(core::num::NonZeroU8) -> bool) -> Option<usize> {
+        (self.start.get()..self.end.get()).filter_map(core::num::NonZeroU8::new).position(found)
+    }
+}
