@@ -1,16 +1,16 @@
 -- The areas of a map that our calls made: they ascend, have the addresses of document 01's rule, are whole pages,
 -- and are no more than the entries held. Assumes nothing.
-use mathlib.Core.Path.{_≡_, ap, subst}
+use mathlib.Core.Path.{_≡_, ap}
 use mathlib.Core.List.{List, [], _∷_, map}
 use mathlib.Core.Bool.{Bool, true, false, not}
-use mathlib.Core.Logic.{_⊎_, inl, inr, ⊎-elim, _↔_}
-use Prim.Native.Nat.{ℕ, _≤_, _<_, min, max}
+use mathlib.Core.Logic.{_⊎_, inl, inr, _↔_}
+use Prim.Native.Nat.{ℕ, _≤_, _<_}
 use native.Mathlib.Omega.{arith}
 use lib.Dec.{eqb}
 use lib.ListN.{length, take}
 use borrow.Author.Tests.{eq-eqb, ne-eqb, eqb-true, eqb-false, not-true}
 use Rattle.page.specs.Round.{top, Aligned, Page}
-use Rattle.page.proofs.Laws.{up-aligned, down-aligned}
+use Rattle.page.proofs.Laws.{up-aligned, down-aligned, min-of, max-of}
 use Rattle.entry.specs.declared.MemoryEntry.{MemoryEntry}
 use Rattle.entry.specs.declared.BootloaderMemoryKind.the-variants.{Free}
 use Rattle.entry.specs.Kind.{numberOf}
@@ -24,7 +24,7 @@ use Rattle.areas.specs.declared.Limit.{Limit}
 use Rattle.areas.specs.Interval.{Interval, Listed, Ascending}
 use Rattle.areas.specs.Areas.{limitOf, span, freeOf, busyOf, areasIn, areasOf}
 use Rattle.areas.specs.Steps.{Solid, entriesOf}
-use Rattle.areas.proofs.Lists.{Every, every-map, every-weaker, le-or-lt}
+use Rattle.areas.proofs.Lists.{Every, every-map, every-weaker}
 use Rattle.areas.proofs.SortLaws.{Off, Apart}
 use Rattle.areas.proofs.AreasLaws.{Sound, areas-ascend, areas-listed}
 use Rattle.areas.proofs.Edges.{Edged, CutTo, areas-edges}
@@ -79,12 +79,6 @@ pub record Whole (p : ℕ) (r : Interval) : Type 0 where
 -- what may be the end of such an area
 abbrev Low : ℕ → ℕ → Type 0
 Low p b = Aligned p b × (b ≤ top p)
-
--- the larger of two page starts is one, and so is the smaller
-max-min : (p a b : ℕ) → Aligned p a → Aligned p b → Aligned p (max a b) × Aligned p (min a b)
-max-min p a b u v =
-    ⊎-elim (λ (h : a ≤ b). (subst (Aligned p) (omega arith) v, subst (Aligned p) (omega arith) u))
-    (λ (h : b < a). (subst (Aligned p) (omega arith) u, subst (Aligned p) (omega arith) v)) (le-or-lt a b)
 
 module _ {p : ℕ} {m : MemoryMap} (made : Made p m) where
   -- what every held entry has that passes a test
@@ -149,4 +143,4 @@ module _ {p : ℕ} {m : MemoryMap} (made : Made p m) where
         (each-held (wants (numberOf Free) false) (λ e. Low p (e .start) × Aligned p (e .end))
         (λ j h. ((made .each j h .from, omega (arith, made .each j h .some, made .each j h .low)), made .each j h .to))))
         (each-held (wants (numberOf Free) true) (CutTo (Aligned p) (Low p) (limitOf p low high))
-        (λ j h. (max-min p _ _ (made .each j h .from) (up-aligned p _ g) .0, (max-min p _ _ (made .each j h .to) (down-aligned p _) .1, omega (arith, made .each j h .low))))))
+        (λ j h. (max-of (Aligned p) _ _ (made .each j h .from) (up-aligned p _ g), (min-of (Aligned p) _ _ (made .each j h .to) (down-aligned p _), omega (arith, made .each j h .low))))))

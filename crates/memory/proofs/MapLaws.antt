@@ -1,12 +1,13 @@
 -- What a registration keeps: every call makes a map again, and a refused one leaves it as it was. For every page size p. Assumes nothing.
-use mathlib.Core.Path.{_≡_, refl, sym, _∙_}
+use mathlib.Core.Path.{_≡_, refl, ap, sym, _∙_}
 use mathlib.Core.Bool.{Bool, true, false, cond, _||_}
-use Prim.Native.Nat.{ℕ, suc, _+_, _-_, _<_, _≤_, min, max}
+use Prim.Native.Nat.{ℕ, suc, _+_, _-_, _<_, _≤_}
 use native.Mathlib.Omega.{arith}
 use lib.Dec.{leb, eqb}
 use lib.ListN.{length-replicate}
 use borrow.Author.Tests.{le-leb, lt-leb, leb-true, leb-false, eq-eqb, ne-eqb, eqb-true, eqb-false}
 use Rattle.page.specs.Round.{Aligned, Page}
+use Rattle.page.proofs.Laws.{min-of, max-of}
 use Rattle.entry.specs.declared.MemoryEntry.{MemoryEntry}
 use Rattle.entry.specs.declared.KindRead.{KindRead}
 use Rattle.entry.specs.declared.KindRead.the-variants.{Known, Unknown}
@@ -24,7 +25,7 @@ use Rattle.memory.specs.declared.Registered.{Registered}
 use Rattle.memory.specs.Map.{slotsOf, at, put, refilled, blank, answered, Absorbs, Pass, look, pass, begin, ended, placed, inserted, Something, nothing, judged, registered}
 use Rattle.memory.specs.Made.{Full, Good, Made}
 use Rattle.memory.proofs.SlotLaws.{from, from-below, from-other, from-apart, at-or-not, full-put, at-put-same, at-put-other, at-moved}
-use Rattle.memory.proofs.PassLaws.{here, absorbing, passing, look-ways, pass-keeps}
+use Rattle.memory.proofs.PassLaws.{here, absorbing, passing, look-ways, pass-keeps, pass-done}
 
 absorbs-sym : (a b : MemoryEntry) → Absorbs a b → Absorbs b a
 absorbs-sym a b t = record { kinds = sym (t .kinds); near = touch-sym a b (t .near) }
@@ -38,40 +39,13 @@ absorbs-apart a b c t h na nb u =
     (λ x. nb (record { kinds = sym (t .kinds) ∙ u .kinds; near = x }))
     (unfold union in u .near)
 
--- one of two is a minimum, and a maximum
-one-of-min : (P : ℕ → Type 0) (a b : ℕ) → P a → P b → P (min a b)
-one-of-min P a b x y = go (leb a b) refl
-  where
-    go : (t : Bool) → leb a b ≡ t → P (min a b)
-    go true e =
-        let h : a ≤ b = leb-true _ _ e in
-        let m : min a b ≡ a = omega arith in
-        rw m x
-    go false e =
-        let h : b < a = leb-false _ _ e in
-        let m : min a b ≡ b = omega arith in
-        rw m y
-
-one-of-max : (P : ℕ → Type 0) (a b : ℕ) → P a → P b → P (max a b)
-one-of-max P a b x y = go (leb a b) refl
-  where
-    go : (t : Bool) → leb a b ≡ t → P (max a b)
-    go true e =
-        let h : a ≤ b = leb-true _ _ e in
-        let m : max a b ≡ b = omega arith in
-        rw m y
-    go false e =
-        let h : b < a = leb-false _ _ e in
-        let m : max a b ≡ a = omega arith in
-        rw m x
-
 union-good : (p : ℕ) (a b : MemoryEntry) → Good p a → Good p b → Good p (union a b)
 unfolding union
 union-good p a b x y =
     record {
       some = omega (arith, x .some, y .some);
-      from = one-of-min (λ n. Aligned p n) _ _ (x .from) (y .from);
-      to = one-of-max (λ n. Aligned p n) _ _ (x .to) (y .to);
+      from = min-of (Aligned p) _ _ (x .from) (y .from);
+      to = max-of (Aligned p) _ _ (x .to) (y .to);
       low = omega (arith, x .low, y .low);
       known = x .known;
       proper = x .proper;
@@ -301,9 +275,24 @@ whole-end m e =
     (unfold begin in record { most = omega arith; new = λ q. refl; slots = λ q. refl; done = λ q j h t. omega arith })
 
 -- a pass that ends with no slot left has changed nothing
-pub refused-whole : (m : MemoryMap) (e : MemoryEntry) (s : Pass) → pass (m .size) (begin m e) ≡ s → m .size ≤ 512 → 512 ≤ s .index
+refused-whole : (m : MemoryMap) (e : MemoryEntry) (s : Pass) → pass (m .size) (begin m e) ≡ s → m .size ≤ 512 → 512 ≤ s .index
     → refilled m (s .slots) (s .index) ≡ m
 refused-whole m e s q room h =
     let w : Whole m e 0 s = rw q at (whole-end m e) in
     let n : s .index ≡ m .size = omega (arith, w .most) in
     rw (n, w .slots (omega arith))
+
+-- a pass at its end, with n entries held: what inserting comes to
+module _ (m : MemoryMap) (e : MemoryEntry) (s : Pass) (n : ℕ) (done : s .index ≡ n) (goes : pass (n - s .index) s ≡ pass (m .size) (begin m e)) where
+  at-end : pass (m .size) (begin m e) ≡ s
+  at-end = sym goes ∙ pass-done n s (omega arith)
+
+  pub inserted-full : m .size ≤ 512 → 512 ≤ n → answered (refilled m (s .slots) n) MapFull ≡ inserted m e
+  unfolding inserted placed
+  inserted-full room h =
+      rw (at-end, le-leb 512 (s .index) (omega arith), ← done)
+      (ap (λ (x : MemoryMap). answered x MapFull) (refused-whole m e s at-end room (omega arith)))
+
+  pub inserted-room : n < 512 → answered (refilled m (put (s .slots) n (s .new)) (n + 1)) Done ≡ inserted m e
+  unfolding inserted placed ended
+  inserted-room h = rw (at-end, lt-leb 512 (s .index) (omega arith), done)

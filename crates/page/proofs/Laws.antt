@@ -1,7 +1,7 @@
 -- The laws of rounding, once for every page size p that divides 2^64: what callers use instead of the text of the definitions.
 -- Assumes nothing.
 use mathlib.Core.Path.{_≡_, refl, sym, _∙_}
-use Prim.Native.Nat.{ℕ, suc, _+_, _-_, _*_, _/_, _^_, _≤_, _<_, min}
+use Prim.Native.Nat.{ℕ, suc, _+_, _-_, _*_, _/_, _^_, _≤_, _<_, min, max}
 use native.Mathlib.Nat.{div-add-mod', le-div-iff-mul-le, div-mul-le-self, lt-div-mul-add, mul-le-mul-right, mul-mod-left, mod-eq-sub-mod, suc-mul, lt-of-mul-lt-mul-right}
 use native.Mathlib.Omega.{arith}
 use mathlib.Core.Bool.{Bool, true, false}
@@ -143,3 +143,17 @@ pub ending-low : (p base size : ℕ) → Page p → down p (ending base size) �
 unfolding ending top
 ending-low p base size g =
     page-gap p _ _ (down-aligned p _) (top-aligned p g) (omega (arith, g .pos, g .small, down-le p (ending base size)))
+
+-- ── The lesser and the greater of two are one of the two ──
+one-of : (P : ℕ → Type 0) (a b c u v : ℕ) → P u → P v → (a ≤ b → c ≡ u) → (b < a → c ≡ v) → P c
+one-of P a b c u v x y f g = go (leb a b) refl
+  where
+    go : (t : Bool) → leb a b ≡ t → P c
+    go true e = rw (f (leb-true a b e)) x
+    go false e = rw (g (leb-false a b e)) y
+
+pub min-of : (P : ℕ → Type 0) (a b : ℕ) → P a → P b → P (min a b)
+min-of P a b x y = one-of P a b (min a b) a b x y (λ h. omega arith) (λ h. omega arith)
+
+pub max-of : (P : ℕ → Type 0) (a b : ℕ) → P a → P b → P (max a b)
+max-of P a b x y = one-of P a b (max a b) b a y x (λ h. omega arith) (λ h. omega arith)

@@ -1,15 +1,11 @@
 -- `insert_in` is one pass over the held slots, and then the new entry goes last. The invariant: the pass from here ends as the whole pass does.
-use mathlib.Core.Path.{_≡_, ap, sym, _∙_}
+use mathlib.Core.Path.{_≡_, sym, _∙_}
 use Prim.Native.Nat.{_-_, _≤_}
 use native.Mathlib.Omega.{arith}
-use denote.Ref.{now}
 use borrow.Author.Needs.{needs}
-use borrow.Author.Tests.{le-leb, lt-leb}
-use Rattle.memory.specs.declared.MemoryMap.{MemoryMap}
-use Rattle.memory.specs.declared.Answer.the-variants.{MapFull}
-use Rattle.memory.specs.Map.{Pass, pass, begin, placed, ended, inserted, at, put, mapOf, slotsAs, answered}
-use Rattle.memory.proofs.PassLaws.{pass-absorbs, pass-passes, pass-done}
-use Rattle.memory.proofs.MapLaws.{refused-whole}
+use Rattle.memory.specs.Map.{Pass, pass, begin, at, put, mapOf, slotsAs}
+use Rattle.memory.proofs.PassLaws.{pass-absorbs, pass-passes}
+use Rattle.memory.proofs.MapLaws.{inserted-full, inserted-room}
 use Rattle.memory.proofs.insert_in.Statement.{statement}
 use Rattle.memory.proofs.insert_in.Tie as tie
 
@@ -121,16 +117,11 @@ loop-again-2 c =
     (omega arith, omega arith, sym (pass-passes (l .n) s (omega arith) t) ∙ l .inv .2)
 
 returns : tie.Need-returns Inv-loop μ-loop
-unfolding inserted placed
+unfolding put
 returns c =
     let l = c .before .before .loop in
-    let a = c .before .before .before .args in
-    let m : MemoryMap = mapOf (now (a .starts)) (now (a .ends)) (now (a .kinds)) (a .size) in
     let s : Pass = record { new = l .new; slots = slotsAs (l .starts) (l .ends) (l .kinds); index = l .index } in
-    let i : l .index ≡ l .n = omega arith in
-    let e : pass (m .size) (begin m (a .entry)) ≡ s = sym (l .inv .2) ∙ pass-done (l .n) s (omega arith) in
-    rw (e, le-leb 512 (l .index) (omega arith), ← i)
-    (ap (λ (x : MemoryMap). answered x MapFull) (refused-whole m (a .entry) s e (c .before .before .before .pre) (omega arith)))
+    inserted-full _ _ s (l .n) (omega arith) (l .inv .2) (c .before .before .before .pre) (omega arith)
 
 mul-starts-3 : tie.Need-mul-starts-3 Inv-loop μ-loop
 mul-starts-3 c = search needs
@@ -154,15 +145,11 @@ add-t42 : tie.Need-add-t42 Inv-loop μ-loop
 add-t42 c = search needs
 
 returns-2 : tie.Need-returns-2 Inv-loop μ-loop
-unfolding inserted placed ended put
+unfolding put
 returns-2 c =
     let l = c .before .before .loop in
-    let a = c .before .before .before .args in
-    let m : MemoryMap = mapOf (now (a .starts)) (now (a .ends)) (now (a .kinds)) (a .size) in
     let s : Pass = record { new = l .new; slots = slotsAs (l .starts) (l .ends) (l .kinds); index = l .index } in
-    let i : l .index ≡ l .n = omega arith in
-    let e : pass (m .size) (begin m (a .entry)) ≡ s = sym (l .inv .2) ∙ pass-done (l .n) s (omega arith) in
-    rw (e, lt-leb 512 (l .index) (omega arith), i)
+    inserted-room _ _ s (l .n) (omega arith) (l .inv .2) (omega arith)
 
 pub insert-in-spec : {M : Type 1} → statement M
 insert-in-spec =
