@@ -1,0 +1,5 @@
+pub mod TokLaws
+pub mod LexLaws
+pub mod WalkLaws
+pub mod HeaderLaws
+pub mod VerdictLaws

@@ -1,0 +1,4 @@
+pub mod TreeLaws
+pub mod GrammarLaws
+pub mod OpeningLaws
+pub mod VeilLaws

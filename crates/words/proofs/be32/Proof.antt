@@ -1,0 +1,75 @@
+-- `words::be32` meets its contract: where the place is in the slice by the four bytes, else by the law that a number past the end is 0.
+-- Assumes nothing.
+use mathlib.Core.Path.{sym}
+use native.Mathlib.Omega.{arith}
+use Rattle.words.specs.Bytes.{word}
+use Rattle.words.proofs.BytesLaws.{word-past}
+use borrow.Author.Needs.{needs}
+use Rattle.words.proofs.be32.Statement.{statement}
+use Rattle.words.proofs.be32.Tie as tie
+
+returns : tie.Need-returns
+returns c = record { is = sym (word-past _ _ (c .if1 .taken)); small = omega arith }
+
+byte-requires : tie.Need-byte-requires
+byte-requires c κs = search needs
+
+add-byte : tie.Need-add-byte
+add-byte c = search needs
+
+byte-requires-2 : tie.Need-byte-requires-2
+byte-requires-2 c κs = search needs
+
+add-byte-2 : tie.Need-add-byte-2
+add-byte-2 c = search needs
+
+byte-requires-3 : tie.Need-byte-requires-3
+byte-requires-3 c κs = search needs
+
+add-byte-3 : tie.Need-add-byte-3
+add-byte-3 c = search needs
+
+byte-requires-4 : tie.Need-byte-requires-4
+byte-requires-4 c κs = search needs
+
+mul-result : tie.Need-mul-result
+mul-result c = search needs
+
+add-result : tie.Need-add-result
+add-result c = search needs
+
+mul-result-2 : tie.Need-mul-result-2
+mul-result-2 c = search needs
+
+add-result-2 : tie.Need-add-result-2
+add-result-2 c = search needs
+
+mul-result-3 : tie.Need-mul-result-3
+mul-result-3 c = search needs
+
+add-result-3 : tie.Need-add-result-3
+add-result-3 c = search needs
+
+returns-2 : tie.Need-returns-2
+unfolding word
+returns-2 c = record { is = omega arith; small = omega arith }
+
+pub be32-spec : {M : Type 1} → statement M
+be32-spec =
+    tie.close
+    (tie.spec
+    returns
+    byte-requires
+    add-byte
+    byte-requires-2
+    add-byte-2
+    byte-requires-3
+    add-byte-3
+    byte-requires-4
+    mul-result
+    add-result
+    mul-result-2
+    add-result-2
+    mul-result-3
+    add-result-3
+    returns-2)
