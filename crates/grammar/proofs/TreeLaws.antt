@@ -18,8 +18,7 @@ use Rattle.fdt.specs.declared.State.{State}
 use Rattle.fdt.specs.declared.Step.{Step}
 use Rattle.fdt.specs.declared.Verdict.{Verdict}
 use Rattle.fdt.specs.declared.Verdict.the-variants.{Accepted, Broken, Over}
-use Rattle.words.specs.Bytes.{bytes}
-use Rattle.words.proofs.BytesLaws.{never, bytes-length}
+use Rattle.words.proofs.BytesLaws.{never, bytes-long}
 use Rattle.fdt.proofs.TokLaws.{Reach, reach}
 
 -- the walk on tokens that are read already
@@ -173,7 +172,7 @@ module _ (b n : List ℕ) (p : ℕ) (k : State → Verdict) (j : ℕ → List To
   step-run Bad d c a m = refl
   step-run (Nop x) d c a m = h (state x d c a)
   step-run (Begin l x) zero c a m =
-      let q : length (bytes b (p + 4) (p + 4 + l)) ≡ l = omega (arith, bytes-length b (p + 4) (p + 4 + l) (omega arith)) in
+      let q = bytes-long b (p + 4) l (omega arith) in
       rw q (after-cond (eqb c 0) _ _ k _ _ (after-cond (eqb l 0) _ _ k _ _ (h (state x 1 1 true)) refl) refl)
   step-run (Begin l x) (suc d) c a m =
       rw (eqb·suc-zero d, ← add-one c, ← add-one (suc d)) (after-cond (leb 32 (suc d)) _ _ k _ _ refl (after-cond (leb 4096 c) _ _ k _ _ refl (h (state x (suc d + 1) (c + 1) true))))

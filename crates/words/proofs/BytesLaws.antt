@@ -119,6 +119,9 @@ module _ (x : ℕ) (s : List ℕ) (at : ℕ) where
 pub bytes-length : (s : List ℕ) (a b : ℕ) → b ≤ length s → length (bytes s a b) ≡ b - a
 bytes-length s a b h = simp (length-take, length-drop) (omega arith)
 
+pub bytes-long : (s : List ℕ) (a l : ℕ) → a + l ≤ length s → length (bytes s a (a + l)) ≡ l
+bytes-long s a l h = omega (arith, bytes-length s a (a + l) h)
+
 pub bytes-byte : (s : List ℕ) (a b i : ℕ) → i < b - a → getD (bytes s a b) i 0 ≡ getD s (a + i) 0
 bytes-byte s a b i h = rw (getD-take, getD-drop)
 
