@@ -1,15 +1,12 @@
 -- `nodes::next_kid` meets its contract. The loop's invariant: what comes first past the properties is the same from `at` on as from the
 -- start on. The measure is what is left of the block. Assumes nothing.
-use mathlib.Core.Path.{refl, _∙_, ap}
+use mathlib.Core.Path.{refl}
 use Prim.Native.Nat.{_-_}
 use native.Mathlib.Nat.{le-refl}
-use native.Mathlib.Omega.{arith}
-use mathlib.Core.Bool.{true, false}
 use lib.ListN.{length}
 use borrow.Author.Needs.{needs}
-use Rattle.nodes.specs.Nav.{dropP}
-use Rattle.nodes.proofs.TokenLaws.{read, reach, ahead, falls}
-use Rattle.nodes.proofs.NavLaws.{Drops, drops-on}
+use Rattle.nodes.proofs.TokenLaws.{falls}
+use Rattle.nodes.proofs.NavLaws.{Drops, drop-step}
 use Rattle.nodes.proofs.next_kid.Statement.{statement}
 use Rattle.nodes.proofs.next_kid.Tie as tie
 
@@ -29,69 +26,43 @@ enum-known-next : tie.Need-enum-known-next Inv-loop μ-loop
 enum-known-next c = search needs
 
 loop-less : tie.Need-loop-less Inv-loop μ-loop
-loop-less c = falls _ _ _ (ahead _ _ _ (c .before .before .before .token-at .ensures) (c .before .next .given .1))
+loop-less c = falls _ _ _ (c .before .before .before .token-at .ensures) (c .before .next .given .1)
 
 loop-again : tie.Need-loop-again Inv-loop μ-loop
-unfolding dropP
-loop-again c =
-    let k = c .before .before .before in
-    let g = c .before .next .given in
-    drops-on (k .before .loop .inv) (ahead _ _ _ (k .token-at .ensures) (g .1)) (ap dropP (read _ _ _ (k .token-at .ensures) (g .1)))
+loop-again c = drop-step _ _ _ _ (c .before .before .before .before .loop .inv) (c .before .before .before .token-at .ensures) (c .before .next .given .1)
 
 enum-known-next-2 : tie.Need-enum-known-next-2 Inv-loop μ-loop
 enum-known-next-2 c = search needs
 
 loop-less-2 : tie.Need-loop-less-2 Inv-loop μ-loop
-loop-less-2 c = falls _ _ _ (ahead _ _ _ (c .before .before .before .token-at .ensures) (c .before .next2 .given .1))
+loop-less-2 c = falls _ _ _ (c .before .before .before .token-at .ensures) (c .before .next2 .given .1)
 
 loop-again-2 : tie.Need-loop-again-2 Inv-loop μ-loop
-unfolding dropP
-loop-again-2 c =
-    let k = c .before .before .before in
-    let g = c .before .next2 .given in
-    drops-on (k .before .loop .inv) (ahead _ _ _ (k .token-at .ensures) (g .1)) (ap dropP (read _ _ _ (k .token-at .ensures) (g .1)))
+loop-again-2 c = drop-step _ _ _ _ (c .before .before .before .before .loop .inv) (c .before .before .before .token-at .ensures) (c .before .next2 .given .1)
 
 enum-known-len : tie.Need-enum-known-len Inv-loop μ-loop
 enum-known-len c = search needs
 
 returns : tie.Need-returns Inv-loop μ-loop
-unfolding dropP
-returns c =
-    let k = c .before .before .before in
-    let g = c .before .len .given in
-    let d = k .before .loop .inv in
-    let m = reach _ _ _ (k .token-at .ensures) (g .1) in
-    record { is = d .same ∙ ap dropP (read _ _ _ (k .token-at .ensures) (g .1)); from = d .from; within = m .3; onward = m .1 }
+returns c = drop-step _ _ _ _ (c .before .before .before .before .loop .inv) (c .before .before .before .token-at .ensures) (c .before .len .given .1)
 
 enum-known-next-3 : tie.Need-enum-known-next-3 Inv-loop μ-loop
 enum-known-next-3 c = search needs
 
 returns-2 : tie.Need-returns-2 Inv-loop μ-loop
-unfolding dropP
-returns-2 c =
-    let k = c .before .before .before in
-    let g = c .before .next3 .given in
-    let d = k .before .loop .inv in
-    let m = ahead _ _ _ (k .token-at .ensures) (g .1) in
-    record { is = d .same ∙ ap dropP (read _ _ _ (k .token-at .ensures) (g .1)); onward = omega arith }
+returns-2 c = drop-step _ _ _ _ (c .before .before .before .before .loop .inv) (c .before .before .before .token-at .ensures) (c .before .next3 .given .1)
 
 enum-told : tie.Need-enum-told Inv-loop μ-loop
 enum-told c = search needs
 
 returns-3 : tie.Need-returns-3 Inv-loop μ-loop
-unfolding dropP
-returns-3 c =
-    let k = c .before .before in
-    (true, k .before .loop .inv .same ∙ ap dropP (read _ _ _ (k .token-at .ensures) (c .enum-told .given .1)))
+returns-3 c = drop-step _ _ _ _ (c .before .before .before .loop .inv) (c .before .before .token-at .ensures) (c .enum-told .given .1)
 
 enum-told-2 : tie.Need-enum-told-2 Inv-loop μ-loop
 enum-told-2 c = search needs
 
 returns-4 : tie.Need-returns-4 Inv-loop μ-loop
-unfolding dropP
-returns-4 c =
-    let k = c .before .before in
-    (false, k .before .loop .inv .same ∙ ap dropP (read _ _ _ (k .token-at .ensures) (c .enum-told2 .given .1)))
+returns-4 c = drop-step _ _ _ _ (c .before .before .before .loop .inv) (c .before .before .token-at .ensures) (c .enum-told2 .given .1)
 
 pub next-kid-spec : {M : Type 1} → statement M
 next-kid-spec =

@@ -1,14 +1,14 @@
 -- `nodes::prop_from` meets its contract. The loop's invariant: the property that is looked for is the same from `at` on as from the
 -- start on. The measure is what is left of the block. Assumes nothing.
-use mathlib.Core.Path.{_≡_, refl, sym, _∙_, ap}
+use mathlib.Core.Path.{_≡_, refl, sym, _∙_}
 use Prim.Native.Nat.{_-_}
 use native.Mathlib.Omega.{arith}
 use lib.ListN.{length}
 use borrow.Author.Needs.{needs}
 use Rattle.fdt.specs.Tree.{lexAt}
 use Rattle.nodes.specs.Nav.{lookup}
-use Rattle.nodes.proofs.TokenLaws.{read, reach, ahead, falls}
-use Rattle.nodes.proofs.NavLaws.{look-hit, look-miss}
+use Rattle.nodes.proofs.TokenLaws.{reach, falls}
+use Rattle.nodes.proofs.NavLaws.{look-step, look-hit, look-miss}
 use Rattle.nodes.proofs.prop_from.Statement.{statement}
 use Rattle.nodes.proofs.prop_from.Tie as tie
 
@@ -28,13 +28,10 @@ enum-known-next : tie.Need-enum-known-next Inv-loop μ-loop
 enum-known-next c = search needs
 
 loop-less : tie.Need-loop-less Inv-loop μ-loop
-loop-less c = falls _ _ _ (ahead _ _ _ (c .before .before .before .token-at .ensures) (c .before .next .given .1))
+loop-less c = falls _ _ _ (c .before .before .before .token-at .ensures) (c .before .next .given .1)
 
 loop-again : tie.Need-loop-again Inv-loop μ-loop
-unfolding lookup
-loop-again c =
-    let k = c .before .before .before in
-    k .before .loop .inv ∙ ap (lookup _) (read _ _ _ (k .token-at .ensures) (c .before .next .given .1))
+loop-again c = c .before .before .before .before .loop .inv ∙ look-step _ _ _ _ (c .before .before .before .token-at .ensures) (c .before .next .given .1)
 
 enum-known-len : tie.Need-enum-known-len Inv-loop μ-loop
 enum-known-len c = search needs
@@ -63,7 +60,7 @@ returns c =
     look-hit _ _ _ _ _ _ _ _ _ (k .token-at .ensures) (c .before .before .before .before .len .given .1) _ (c .before .before .part .ensures) (sym (c .before .same .ensures) ∙ c .if1 .taken))
 
 loop-less-2 : tie.Need-loop-less-2 Inv-loop μ-loop
-loop-less-2 c = falls _ _ _ (ahead _ _ _ (c .before .before .before .before .before .before .token-at .ensures) (c .before .before .before .before .len .given .1))
+loop-less-2 c = falls _ _ _ (c .before .before .before .before .before .before .token-at .ensures) (c .before .before .before .before .len .given .1)
 
 loop-again-2 : tie.Need-loop-again-2 Inv-loop μ-loop
 loop-again-2 c =
@@ -75,37 +72,25 @@ enum-told : tie.Need-enum-told Inv-loop μ-loop
 enum-told c = search needs
 
 returns-2 : tie.Need-returns-2 Inv-loop μ-loop
-unfolding lookup
-returns-2 c =
-    let k = c .before .before in
-    sym (k .before .loop .inv ∙ ap (lookup _) (read _ _ _ (k .token-at .ensures) (c .enum-told .given .1)))
+returns-2 c = sym (c .before .before .before .loop .inv ∙ look-step _ _ _ _ (c .before .before .token-at .ensures) (c .enum-told .given .1))
 
 enum-told-2 : tie.Need-enum-told-2 Inv-loop μ-loop
 enum-told-2 c = search needs
 
 returns-3 : tie.Need-returns-3 Inv-loop μ-loop
-unfolding lookup
-returns-3 c =
-    let k = c .before .before in
-    sym (k .before .loop .inv ∙ ap (lookup _) (read _ _ _ (k .token-at .ensures) (c .enum-told2 .given .1)))
+returns-3 c = sym (c .before .before .before .loop .inv ∙ look-step _ _ _ _ (c .before .before .token-at .ensures) (c .enum-told2 .given .1))
 
 enum-told-3 : tie.Need-enum-told-3 Inv-loop μ-loop
 enum-told-3 c = search needs
 
 returns-4 : tie.Need-returns-4 Inv-loop μ-loop
-unfolding lookup
-returns-4 c =
-    let k = c .before .before in
-    sym (k .before .loop .inv ∙ ap (lookup _) (read _ _ _ (k .token-at .ensures) (c .enum-told3 .given .1)))
+returns-4 c = sym (c .before .before .before .loop .inv ∙ look-step _ _ _ _ (c .before .before .token-at .ensures) (c .enum-told3 .given .1))
 
 enum-told-4 : tie.Need-enum-told-4 Inv-loop μ-loop
 enum-told-4 c = search needs
 
 returns-5 : tie.Need-returns-5 Inv-loop μ-loop
-unfolding lookup
-returns-5 c =
-    let k = c .before .before in
-    sym (k .before .loop .inv ∙ ap (lookup _) (read _ _ _ (k .token-at .ensures) (c .enum-told4 .given .1)))
+returns-5 c = sym (c .before .before .before .loop .inv ∙ look-step _ _ _ _ (c .before .before .token-at .ensures) (c .enum-told4 .given .1))
 
 pub prop-from-spec : {M : Type 1} → statement M
 prop-from-spec =

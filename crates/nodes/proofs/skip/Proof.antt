@@ -1,17 +1,13 @@
 -- `nodes::skip` meets its contract. The loop's invariant: with `depth` levels open at `at`, what follows their end is what follows the
 -- node's; and `depth` is at most `at + 1`. The measure is what is left of the block. Assumes nothing.
-use mathlib.Core.Path.{refl, sym, _∙_, ap}
+use mathlib.Core.Path.{refl}
 use Prim.Native.Nat.{_-_}
 use native.Mathlib.Nat.{le-refl}
-use native.Mathlib.Numerals.{add-one}
 use native.Mathlib.Omega.{arith}
-use mathlib.Core.List.{List}
 use lib.ListN.{length}
 use borrow.Author.Needs.{needs}
-use Rattle.fdt.specs.Tree.{Tok, lexAt}
-use Rattle.nodes.specs.Nav.{skipT}
-use Rattle.nodes.proofs.TokenLaws.{read, ahead, falls}
-use Rattle.nodes.proofs.NavLaws.{Skips, skips-on, skip-end, skip-deep}
+use Rattle.nodes.proofs.TokenLaws.{falls}
+use Rattle.nodes.proofs.NavLaws.{Skips, skip-step}
 use Rattle.nodes.proofs.skip.Statement.{statement}
 use Rattle.nodes.proofs.skip.Tie as tie
 
@@ -31,99 +27,58 @@ enum-known-next : tie.Need-enum-known-next Inv-loop μ-loop
 enum-known-next c = search needs
 
 loop-less : tie.Need-loop-less Inv-loop μ-loop
-loop-less c = falls _ _ _ (ahead _ _ _ (c .before .before .before .token-at .ensures) (c .before .next .given .1))
+loop-less c = falls _ _ _ (c .before .before .before .token-at .ensures) (c .before .next .given .1)
 
 loop-again : tie.Need-loop-again Inv-loop μ-loop
-loop-again c =
-    let k = c .before .before .before in
-    let g = c .before .next .given in
-    let l = k .before .loop in
-    skips-on _ _ (l .inv) (ahead _ _ _ (k .token-at .ensures) (g .1)) (omega arith)
-    (ap (λ (x : List Tok). skipT x (l .depth)) (read _ _ _ (k .token-at .ensures) (g .1)))
+loop-again c = skip-step _ _ _ _ _ (c .before .before .before .before .loop .inv) (c .before .before .before .token-at .ensures) (c .before .next .given .1)
 
 enum-known-next-2 : tie.Need-enum-known-next-2 Inv-loop μ-loop
 enum-known-next-2 c = search needs
 
 loop-less-2 : tie.Need-loop-less-2 Inv-loop μ-loop
-loop-less-2 c = falls _ _ _ (ahead _ _ _ (c .before .before .before .token-at .ensures) (c .before .next2 .given .1))
+loop-less-2 c = falls _ _ _ (c .before .before .before .token-at .ensures) (c .before .next2 .given .1)
 
 loop-again-2 : tie.Need-loop-again-2 Inv-loop μ-loop
-loop-again-2 c =
-    let k = c .before .before .before in
-    let g = c .before .next2 .given in
-    let l = k .before .loop in
-    skips-on _ _ (l .inv) (ahead _ _ _ (k .token-at .ensures) (g .1)) (omega arith)
-    (ap (λ (x : List Tok). skipT x (l .depth)) (read _ _ _ (k .token-at .ensures) (g .1)))
+loop-again-2 c = skip-step _ _ _ _ _ (c .before .before .before .before .loop .inv) (c .before .before .before .token-at .ensures) (c .before .next2 .given .1)
 
 enum-known-next-3 : tie.Need-enum-known-next-3 Inv-loop μ-loop
 enum-known-next-3 c = search needs
 
 add-depth : tie.Need-add-depth Inv-loop μ-loop
-add-depth c =
-    let m = ahead _ _ _ (c .before .before .before .token-at .ensures) (c .before .next3 .given .1) in
-    omega arith
+add-depth c = let m = skip-step _ _ _ _ _ (c .before .before .before .before .loop .inv) (c .before .before .before .token-at .ensures) (c .before .next3 .given .1) .0 in omega arith
 
 loop-less-3 : tie.Need-loop-less-3 Inv-loop μ-loop
-loop-less-3 c = falls _ _ _ (ahead _ _ _ (c .before .before .before .token-at .ensures) (c .before .next3 .given .1))
+loop-less-3 c = falls _ _ _ (c .before .before .before .token-at .ensures) (c .before .next3 .given .1)
 
 loop-again-3 : tie.Need-loop-again-3 Inv-loop μ-loop
-loop-again-3 c =
-    let k = c .before .before .before in
-    let g = c .before .next3 .given in
-    let l = k .before .loop in
-    skips-on _ _ (l .inv) (ahead _ _ _ (k .token-at .ensures) (g .1)) (omega arith)
-    (ap (λ (x : List Tok). skipT x (l .depth)) (read _ _ _ (k .token-at .ensures) (g .1)) ∙ ap (skipT (lexAt _ _ (g .0 .1 .0))) (sym (add-one (l .depth))))
+loop-again-3 c = skip-step _ _ _ _ _ (c .before .before .before .before .loop .inv) (c .before .before .before .token-at .ensures) (c .before .next3 .given .1) .1
 
 enum-known-next-4 : tie.Need-enum-known-next-4 Inv-loop μ-loop
 enum-known-next-4 c = search needs
 
 returns : tie.Need-returns Inv-loop μ-loop
-returns c =
-    let k = c .before .before .before .before in
-    let g = c .before .before .next4 .given in
-    let l = k .before .loop in
-    let m = ahead _ _ _ (k .token-at .ensures) (g .1) in
-    record {
-      is =
-          sym
-          (l .inv .same ∙ ap (λ (x : List Tok). skipT x (l .depth)) (read _ _ _ (k .token-at .ensures) (g .1)) ∙
-          skip-end _ _ (c .if1 .taken));
-      onward = omega arith;
-    }
+returns c = skip-step _ _ _ _ _ (c .before .before .before .before .before .loop .inv) (c .before .before .before .before .token-at .ensures) (c .before .before .next4 .given .1) .0 (c .if1 .taken)
 
 sub-depth : tie.Need-sub-depth Inv-loop μ-loop
 sub-depth c = omega arith
 
 loop-less-4 : tie.Need-loop-less-4 Inv-loop μ-loop
-loop-less-4 c = falls _ _ _ (ahead _ _ _ (c .before .before .before .before .token-at .ensures) (c .before .before .next4 .given .1))
+loop-less-4 c = falls _ _ _ (c .before .before .before .before .token-at .ensures) (c .before .before .next4 .given .1)
 
 loop-again-4 : tie.Need-loop-again-4 Inv-loop μ-loop
-loop-again-4 c =
-    let k = c .before .before .before .before in
-    let g = c .before .before .next4 .given in
-    let l = k .before .loop in
-    skips-on _ _ (l .inv) (ahead _ _ _ (k .token-at .ensures) (g .1)) (omega arith)
-    (ap (λ (x : List Tok). skipT x (l .depth)) (read _ _ _ (k .token-at .ensures) (g .1)) ∙ skip-deep _ _ (c .if1 .left))
+loop-again-4 c = skip-step _ _ _ _ _ (c .before .before .before .before .before .loop .inv) (c .before .before .before .before .token-at .ensures) (c .before .before .next4 .given .1) .1 (c .if1 .left)
 
 enum-told : tie.Need-enum-told Inv-loop μ-loop
 enum-told c = search needs
 
 returns-2 : tie.Need-returns-2 Inv-loop μ-loop
-returns-2 c =
-    let k = c .before .before in
-    let l = k .before .loop in
-    let r = read _ _ _ (k .token-at .ensures) (c .enum-told .given .1) in
-    record { is = sym (l .inv .same ∙ ap (λ (x : List Tok). skipT x (l .depth)) r ∙ sym r); onward = l .inv .from }
+returns-2 c = skip-step _ _ _ _ _ (c .before .before .before .loop .inv) (c .before .before .token-at .ensures) (c .enum-told .given .1)
 
 enum-told-2 : tie.Need-enum-told-2 Inv-loop μ-loop
 enum-told-2 c = search needs
 
 returns-3 : tie.Need-returns-3 Inv-loop μ-loop
-returns-3 c =
-    let k = c .before .before in
-    let l = k .before .loop in
-    let r = read _ _ _ (k .token-at .ensures) (c .enum-told2 .given .1) in
-    record { is = sym (l .inv .same ∙ ap (λ (x : List Tok). skipT x (l .depth)) r ∙ sym r); onward = l .inv .from }
+returns-3 c = skip-step _ _ _ _ _ (c .before .before .before .loop .inv) (c .before .before .token-at .ensures) (c .enum-told2 .given .1)
 
 pub skip-spec : {M : Type 1} → statement M
 skip-spec =
