@@ -98,6 +98,6 @@ abbrev pub top : List Level → Nodes
 top [] = none
 top (l ∷ ls) = l .lkids
 
--- the tree of a structure block and a strings block. Of blocks that hold one; GrammarLaws.tree-is says which it is
+-- the tree of a structure block and a strings block. Of blocks that hold one: tree-is, in the crate grammar, says which it is
 unfoldable pub treeOf : List ℕ → List ℕ → Nodes
 treeOf b n = top (levels (lexAt b n 0))

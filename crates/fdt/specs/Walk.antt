@@ -1,5 +1,5 @@
 -- The walk over the structure block, a token at a time, in which the first faulty token decides: document 01, "The tree" and
--- "Numbers a caller gets back". GrammarLaws ties it to the grammar of the Specification.
+-- "Numbers a caller gets back". The crate grammar ties it to the grammar of the Specification.
 use Prim.Native.Nat.{ℕ, zero, suc, _+_, _-_}
 use mathlib.Core.List.{List}
 use mathlib.Core.Bool.{Bool, true, false, cond}

@@ -1,5 +1,5 @@
 -- Finding one's way in a structure block b with names in a strings block n, on the tokens from a place on. specs/OnTree.antt says the
--- same on the tree, and the laws say that on an accepted tree, at a node's place, the two agree.
+-- same on the tree, and the crate reading proves that on an accepted tree, at a node's place, the two agree.
 use mathlib.Core.Path.{_≡_}
 use Prim.Native.Nat.{ℕ, zero, suc, _+_, _≤_, _<_}
 use mathlib.Core.Bool.{Bool, true, false, cond, _||_}
