@@ -8,5 +8,6 @@ pub extern "C" fn bench_open(s: &[u8]) -> u8
     ensures { λ r. ⌜ r ≡ openedNumber (openedOf (now (s .entry))) ⌝ }
 {
     let opened = fdt::open_tree(s);
-    opened.number()
+    let said = opened.number();
+    said
 }
