@@ -1,0 +1,4 @@
+pub mod LeftLaws
+pub mod EnterLaws
+pub mod StepLaws
+pub mod CodeLaws
