@@ -113,13 +113,13 @@ node-of t o = ⊎-elim (λ i. i) (λ x. absurd (not-empty x refl)) (one-node t [
     not-empty (later o) e = omega arith
 
 -- past the first of two rows the second ascends
-ascending-past : (ks : Nodes) (l : List ℕ) {p : ℕ} → Ascending p (order ks l) → (o : ℕ) × Ascending o l
+pub ascending-past : (ks : Nodes) (l : List ℕ) {p : ℕ} → Ascending p (order ks l) → (o : ℕ) × Ascending o l
 unfolding order
 ascending-past none l {p = p} a = (p, a)
 ascending-past (node q nm ps ks rest) l (then k a) = ascending-past rest l (ascending-past ks (order rest l) a .1)
 
 -- no place is in both
-apart : {q : ℕ} {nm : List ℕ} {ps : List Property} {kids rest t : Nodes} → Among q nm ps kids rest t → (l : List ℕ) {p : ℕ}
+pub apart : {q : ℕ} {nm : List ℕ} {ps : List Property} {kids rest t : Nodes} → Among q nm ps kids rest t → (l : List ℕ) {p : ℕ}
     → Ascending p (order t l) → OneOf q l → ⊥
 unfolding order
 apart {kids = kids} {rest = rest} first l (then k a) o = let h = one-from a (one-past kids (one-past rest o)) in omega arith

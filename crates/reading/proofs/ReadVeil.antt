@@ -54,7 +54,7 @@ module _ (free : Free) where
   lookup-veil name (x ∷ ps) = rw (veil-name x, veil-at x, veil-length x, lookup-veil name ps)
 
   -- the value of a name of which no property is free
-  value-veil : (name : List ℕ) → Keeps free name → (ps : List Property) → valueOf name (veilP free ps) ≡ valueOf name ps
+  pub value-veil : (name : List ℕ) → Keeps free name → (ps : List Property) → valueOf name (veilP free ps) ≡ valueOf name ps
   unfolding valueOf veilP
   value-veil name k [] = refl
   value-veil name k (x ∷ ps) = rw (veil-name x, value-veil name k ps) (go (sameBytes (x .name) name) refl)
@@ -75,11 +75,11 @@ module _ (free : Free) where
   head-veil none = refl
   head-veil (node q nm ps kids rest) = refl
 
-  veil-cond : (t : Bool) (x y : Nodes) → veilK free (cond t x y) ≡ cond t (veilK free x) (veilK free y)
+  pub veil-cond : (t : Bool) (x y : Nodes) → veilK free (cond t x y) ≡ cond t (veilK free x) (veilK free y)
   veil-cond true x y = refl
   veil-cond false x y = refl
 
-  find-veil : (step : List ℕ) (ks : Nodes) → findK step (veilK free ks) ≡ veilK free (findK step ks)
+  pub find-veil : (step : List ℕ) (ks : Nodes) → findK step (veilK free ks) ≡ veilK free (findK step ks)
   unfolding findK veilK
   find-veil step none = refl
   find-veil step (node q nm ps kids rest) =
@@ -96,7 +96,7 @@ module _ (free : Free) where
   unfolding pathIn
   path-veil t p = rw (head-veil t, go-veil (stepsFrom (length p) p 1) t)
 
-  order-veil : (t : Nodes) (l : List ℕ) → order (veilK free t) l ≡ order t l
+  pub order-veil : (t : Nodes) (l : List ℕ) → order (veilK free t) l ≡ order t l
   unfolding order veilK
   order-veil none l = refl
   order-veil (node q nm ps kids rest) l = rw (order-veil rest l, order-veil kids (order rest l))

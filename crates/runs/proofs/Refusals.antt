@@ -116,7 +116,7 @@ module _ (p : ℕ) (m : MemoryMap) (c : Claim) where
           placed-ways m (pass (m .size) (begin m (rounded p c))) (λ q. (q .answer ≡ Done → ⊥) → q .map ≡ m) (λ h n. refl) (λ h n. absurd (n refl))
 
 -- ── A run of claims that all have a kind ──
-abbrev Kinds : List Claim → Type 0
+abbrev pub Kinds : List Claim → Type 0
 Kinds cs = (c : Claim) → List·Memᴰ c cs → IsKind (c .kind)
 
 abbrev Kindless : Claim → Type 0
@@ -142,7 +142,7 @@ judged (c ∷ cs) = go (kindOf (c .kind)) (reads (c .kind)) (judged cs)
         w
 
 -- such a run is never refused for a kind
-run-known : (p : ℕ) (m : MemoryMap) (cs : List Claim) → Kinds cs → registeredAll p m cs .answer ≡ UnknownKind → ⊥
+pub run-known : (p : ℕ) (m : MemoryMap) (cs : List Claim) → Kinds cs → registeredAll p m cs .answer ≡ UnknownKind → ⊥
 run-known p m [] f e = done-unknown (ap (λ (r : Registered). r .answer) (sym (run-nil p m)) ∙ e)
 run-known p m (c ∷ cs) f e =
     done-or (registered p m c .answer) ⊥
@@ -150,7 +150,7 @@ run-known p m (c ∷ cs) f e =
     (λ n s. unknown-exactly p m c .0 (rw (run-stops p m c cs s) at e) (f c (List·Memᴰ·head refl)))
 
 -- and is refused for want of a slot exactly when it overflows
-run-full : (p : ℕ) (m : MemoryMap) (cs : List Claim) → Page p → Made p m → (registeredAll p m cs .answer ≡ MapFull) ↔ Overflows p m cs
+pub run-full : (p : ℕ) (m : MemoryMap) (cs : List Claim) → Page p → Made p m → (registeredAll p m cs .answer ≡ MapFull) ↔ Overflows p m cs
 run-full p m cs g made = (there m cs made, λ o. back m (o .before) (o .next) (o .after) cs made (o .run) (o .accepted) (o .refused))
   where
     there : (n : MemoryMap) (ds : List Claim) → Made p n → registeredAll p n ds .answer ≡ MapFull → Overflows p n ds

@@ -1,0 +1,36 @@
+-- What is read of a stream of cases, and how cases are counted.
+use Prim.Native.Nat.{ℕ, _+_, _*_, _%_, _^_}
+use mathlib.Core.List.{List}
+use mathlib.Core.Bool.{false, cond}
+use lib.ListN.{getD}
+use lib.Dec.{eqb}
+use Rattle.stream.specs.declared.Tally.{Tally}
+
+-- the number in the 8 bytes at place i, the lowest byte first
+abbrev pub number : List ℕ → ℕ → ℕ
+number l i =
+    getD l i 0
+    + 256 * (getD l (i + 1) 0
+    + 256 * (getD l (i + 2) 0
+    + 256 * (getD l (i + 3) 0
+    + 256 * (getD l (i + 4) 0
+    + 256 * (getD l (i + 5) 0
+    + 256 * (getD l (i + 6) 0
+    + 256 * getD l (i + 7) 0))))))
+
+-- before the first case
+abbrev pub none : Tally
+none = record { cases = 0; differ = 0; case = 0; part = 0; cut = false }
+
+-- one more, as a 64-bit count goes
+abbrev pub more : ℕ → ℕ
+more n = (n + 1) % 2 ^ 64
+
+-- with one case more, and the part of it that differs, or 0; the first that differs is kept
+unfoldable pub andCase : Tally → ℕ → Tally
+andCase t part =
+    cond (eqb part 0)
+    (record { cases = more (t .cases); differ = t .differ; case = t .case; part = t .part; cut = t .cut })
+    (cond (eqb (t .differ) 0)
+    (record { cases = more (t .cases); differ = 1; case = t .cases; part = part; cut = t .cut })
+    (record { cases = more (t .cases); differ = more (t .differ); case = t .case; part = t .part; cut = t .cut }))

@@ -1,0 +1,3 @@
+pub mod ClaimKinds
+pub mod Refusals
+pub mod Translated

@@ -1,0 +1,4 @@
+pub mod VeilShape
+pub mod VeilRules
+pub mod VeilClaims
+pub mod ValueBytes
