@@ -1,6 +1,7 @@
 //! Times our compiled crates against the unchanged Rust, in one process and in alternating rounds.
+use crate::blob::{Blocks, Node, Order};
 use crate::rust::{self, Claim, Entry};
-use crate::startup::memory::{held, hold, kind_of, register_list, register_memory_region};
+use crate::startup::original::{held, hold, kind_of, register_list, register_memory_region};
 use std::hint::black_box;
 use std::time::{Duration, Instant};
 
@@ -19,6 +20,7 @@ unsafe extern "C" {
         base: u64,
         kind: u64,
     ) -> usize;
+    fn bench_claims(tree: *const u8, bytes: usize, arm: bool) -> usize;
     fn bench_build(
         starts: *const u64,
         ends: *const u64,
@@ -125,6 +127,68 @@ fn build(name: &'static str, claims: &[Claim]) -> Work {
     }
 }
 
+fn cells(numbers: &[u32]) -> Vec<u8> {
+    numbers.iter().flat_map(|number| number.to_be_bytes()).collect()
+}
+
+/// A node that states one cell for addresses and one for sizes.
+fn bus(name: &str, ranges: &[u32]) -> Node {
+    Node::new(name).with("#address-cells", cells(&[1])).with("#size-cells", cells(&[1])).with("ranges", cells(ranges))
+}
+
+fn device(at: u32) -> Node {
+    Node::new(&format!("device@{at:x}"))
+        .with("compatible", "vendor,device\0")
+        .with("reg", cells(&[at, 0x1000]))
+        .with("interrupts", cells(&[0, at >> 12, 4]))
+        .with("status", "okay\0")
+}
+
+/// A board of so many nodes: ten on the way to them, one device in sixteen right below /soc, and the others on four
+/// buses in it, of which the last has the console at its end. Devices stand two pages apart, 500 of them in turn.
+fn board(nodes: u32) -> Vec<u8> {
+    let devices = nodes - 10;
+    let at = |i: u32| 0x1_0000 + i % 500 * 0x2000;
+    let (direct, nested): (Vec<u32>, Vec<u32>) = (0..devices).partition(|i| i % 16 == 0);
+    let buses = nested
+        .chunks(nested.len().div_ceil(4))
+        .enumerate()
+        .map(|(i, on)| bus(&format!("bus@{i}"), &[0, 0, 0x4000_0000]).holding(on.iter().map(|i| device(at(*i)))));
+    let soc =
+        bus("soc", &[0, 0x4000_0000, 0x4000_0000]).holding(direct.into_iter().map(|i| device(at(i))).chain(buses));
+    let last = nested.last().copied().unwrap_or(0);
+    let reserved = bus("reserved-memory", &[])
+        .holding([Node::new("firmware@80000000").with("reg", cells(&[0x8000_0000, 0x10_0000]))]);
+    let console = format!("/soc/bus@3/device@{:x}:115200n8\0", at(last));
+    let root = Node::new("")
+        .with("#address-cells", cells(&[1]))
+        .with("#size-cells", cells(&[1]))
+        .with("model", "some board\0")
+        .holding([
+            Node::new("chosen").with("stdout-path", console),
+            reserved,
+            soc,
+            Node::new("interrupt-controller@f0000000")
+                .with("interrupt-controller", "")
+                .with("reg", cells(&[0xf000_0000, 0x1000, 0xf001_0000, 0x1000])),
+        ]);
+    Blocks::plain(&[[0x9000_0000, 0x1_0000]], &root).lay_out(Order::Usual)
+}
+
+fn tree(name: &'static str, nodes: u32) -> Work {
+    let bytes = board(nodes);
+    let words: &'static [u32] = rust::whole_words(&bytes).leak();
+    Work {
+        name,
+        rust: Box::new(move || {
+            hold(&[]);
+            let took = rust::time_tree(words);
+            (took, held().len())
+        }),
+        ours: Box::new(move || timed(|| unsafe { bench_claims(bytes.as_ptr(), bytes.len(), false) })),
+    }
+}
+
 fn works() -> Vec<Work> {
     let page = |i: u64, kind: u64| [i * PAGE, PAGE, kind];
     let separate: Vec<Claim> = (0..512).map(|i| page(2 * i, FREE)).collect();
@@ -142,6 +206,9 @@ fn works() -> Vec<Work> {
         build("build: 1 Free cut by 511, ascending", &ascending),
         build("build: 1 Free cut by 511, descending", &descending),
         build("build: 256 Free, each cut by one of 256", &halved),
+        tree("tree of 50 nodes, from empty (b)", 50),
+        tree("tree of 500 nodes, from empty (b)", 500),
+        tree("tree of 4,000 nodes, from empty (b)", 4000),
     ]
 }
 
@@ -164,5 +231,6 @@ pub fn run() {
         let (rust, ours) = (median(rust), median(ours));
         println!("{:<44} {rust:>10.0} {ours:>10.0} {:>7.2}", work.name, ours / rust);
     }
+    println!("(b) the Rust over the stand-in for the crate fdt, which opens and does not judge");
     println!("(a) where the Rust panics: its time has the unwinding, and catching it, in it");
 }

@@ -1,15 +1,16 @@
 //! The cases: first the edges that document 01 names, then random ones that dwell on edges.
+use crate::rng::Rng;
 use crate::rust::{self, Claim};
-use crate::startup::memory::{held, hold};
+use crate::startup::original::{held, hold};
 
-const PAGE: u64 = 4096;
+pub const PAGE: u64 = 4096;
 /// The start of the last page.
-const T: u64 = PAGE.wrapping_neg();
-const FREE: u64 = 1;
-const RESERVED: u64 = 3;
+pub const T: u64 = PAGE.wrapping_neg();
+pub const FREE: u64 = 1;
+pub const RESERVED: u64 = 3;
 const KERNEL: u64 = 0x100;
 const IDENTITY_MAP: u64 = 0x102;
-const KINDS: [u64; 7] = [0, FREE, 2, RESERVED, KERNEL, 0x101, IDENTITY_MAP];
+pub const KINDS: [u64; 7] = [0, FREE, 2, RESERVED, KERNEL, 0x101, IDENTITY_MAP];
 const NO_KINDS: [u64; 8] = [4, 0xff, 0x103, 0x200, 0x1_0000_0001, 1 << 63, u64::MAX - 1, u64::MAX];
 
 pub struct Case {
@@ -24,47 +25,7 @@ pub struct Case {
     pub len: usize,
 }
 
-/// Splitmix64.
-struct Rng(u64);
-
 impl Rng {
-    fn next(&mut self) -> u64 {
-        self.0 = self.0.wrapping_add(0x9e37_79b9_7f4a_7c15);
-        let x = (self.0 ^ self.0 >> 30).wrapping_mul(0xbf58_476d_1ce4_e5b9);
-        let x = (x ^ x >> 27).wrapping_mul(0x94d0_49bb_1331_11eb);
-        x ^ x >> 31
-    }
-
-    fn below(&mut self, n: u64) -> u64 {
-        self.next() % n
-    }
-
-    fn one_in(&mut self, n: u64) -> bool {
-        self.below(n) == 0
-    }
-
-    fn pick<A: Copy>(&mut self, from: &[A]) -> A {
-        from[self.below(from.len() as u64) as usize]
-    }
-
-    fn shuffle<A>(&mut self, items: &mut [A]) {
-        for i in (1..items.len()).rev() {
-            items.swap(i, self.below(i as u64 + 1) as usize);
-        }
-    }
-
-    /// A number at, or close to, x.
-    fn near(&mut self, x: u64) -> u64 {
-        match self.below(10) {
-            0..=4 => x,
-            5 => x.wrapping_add(1),
-            6 => x.wrapping_sub(1),
-            7 => x.wrapping_add(self.pick(&[2, 0x7ff, 0x800, 0xfff, 0x1001])),
-            8 => x.wrapping_sub(self.pick(&[2, 0x7ff, 0x800, 0xfff, 0x1001])),
-            _ => x.wrapping_add(self.below(PAGE)),
-        }
-    }
-
     fn size(&mut self, pages: u64) -> u64 {
         if self.one_in(4) {
             return self.pick(&[0, 1, 2, 0x7ff, 0x800, 0xfff, 0x1000, 0x1001, 0x1fff, 0x2000]);
@@ -279,6 +240,6 @@ fn edges() -> Vec<Case> {
 
 /// The cases of a seed, without end.
 pub fn cases(seed: u64) -> impl Iterator<Item = Case> {
-    let mut rng = Rng(seed);
+    let mut rng = Rng::new(seed);
     edges().into_iter().chain(std::iter::repeat_with(move || rng.random()))
 }

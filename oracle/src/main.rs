@@ -1,6 +1,6 @@
 //! The unchanged Rust of the boot memory map as an oracle. `oracle gen SEED COUNT` writes COUNT cases with the
-//! Rust's answers to standard output; README.md has their layout. `oracle bench`, where it is built with that
-//! feature, times our crates against the Rust.
+//! Rust's answers to standard output, `oracle claims SEED COUNT` the same of trees; README.md has their layouts.
+//! `oracle bench`, where it is built with that feature, times our crates against the Rust.
 #![feature(sync_unsafe_cell, int_roundings)]
 
 /// The Rust's log lines are type checked and not written.
@@ -9,18 +9,36 @@ macro_rules! debug {
 }
 macro_rules! trace { ($($text:tt)*) => { debug!($($text)*) }; }
 macro_rules! info { ($($text:tt)*) => { debug!($($text)*) }; }
+macro_rules! warn { ($($text:tt)*) => { debug!($($text)*) }; }
 macro_rules! error { ($($text:tt)*) => { debug!($($text)*) }; }
+
+/// What the kernel's build decides, decided for each case: whether it is for 64-bit ARM. The build takes trees, and
+/// whether there is one is for `KernelArgs::dtb`.
+macro_rules! cfg {
+    (target_arch = "aarch64") => { crate::rust::is_arm() };
+    (dtb) => { true };
+    ($($other:tt)*) => { ::core::cfg!($($other)*) };
+}
 
 #[cfg(feature = "bench")]
 mod bench;
+mod blob;
 mod cases;
+mod choices;
+mod claims;
+mod judge;
+mod rng;
 mod rust;
-#[allow(dead_code, unexpected_cfgs)]
+#[allow(dead_code)]
 mod stubs;
+mod tree_cases;
+mod tree_edges;
+mod trees;
+mod values;
 
 use cases::Case;
 use std::io::{self, BufWriter, Write};
-// memory.rs names these from the crate's root.
+// memory.rs and dtb/mod.rs name these from the crate's root.
 use stubs::{arch, devices, dtb, kernel_executable_offsets, memory, startup};
 
 fn put_map(out: &mut Vec<u64>, map: &[rust::Entry]) {
@@ -39,20 +57,20 @@ fn words(case: &Case) -> Vec<u64> {
     out.push(case.len as u64);
     out.extend(claims.as_flattened());
 
-    startup::memory::hold(&[]);
+    startup::original::hold(&[]);
     out.extend(first.iter().map(|claim| rust::register(*claim)));
-    let after_first = startup::memory::held();
+    let after_first = startup::original::held();
     out.extend(list.iter().map(|claim| rust::register(*claim)));
-    let after_all = startup::memory::held();
+    let after_all = startup::original::held();
 
-    startup::memory::hold(&after_first);
+    startup::original::hold(&after_first);
     out.push(rust::register_all(list, case.tail));
-    let after_list = startup::memory::held();
+    let after_list = startup::original::held();
     put_map(&mut out, &after_first);
     put_map(&mut out, &after_list);
     put_map(&mut out, &after_all);
 
-    startup::memory::hold(&after_all);
+    startup::original::hold(&after_all);
     let build = rust::build(case.low, case.high, case.len);
     out.extend([build.answer, build.count]);
     out.extend(build.numbers);
@@ -75,10 +93,11 @@ fn main() -> io::Result<()> {
     let number = |i: usize| args.get(i).and_then(|text| text.parse::<u64>().ok());
     match (args.first().map(String::as_str), number(1), number(2)) {
         (Some("gen"), Some(seed), Some(count)) => generate(seed, count as usize),
+        (Some("claims"), Some(seed), Some(count)) => claims::generate(seed, count as usize),
         #[cfg(feature = "bench")]
         (Some("bench"), None, None) => Ok(bench::run()),
         _ => {
-            eprintln!("oracle gen SEED COUNT");
+            eprintln!("oracle gen SEED COUNT\noracle claims SEED COUNT");
             std::process::exit(2);
         }
     }

@@ -1,7 +1,8 @@
 //! Calls of the unchanged Rust, with its panics turned into the numbers of document 01.
+use crate::judge::judge;
 use crate::memory::{AREA_COUNT, AREAS};
 use crate::startup::KernelArgs;
-use crate::startup::memory::{held, hold, init, kind_of, register_list, register_memory_region};
+use crate::startup::original::{held, hold, init, kind_of, register_list, register_memory_region, register_sources};
 use rmm::{MemoryArea, PhysicalAddress};
 use std::panic::{AssertUnwindSafe, catch_unwind, set_hook};
 use std::sync::Mutex;
@@ -13,11 +14,16 @@ pub const DONE: u64 = 0;
 pub const UNKNOWN_KIND: u64 = 1;
 pub const MAP_FULL: u64 = 2;
 pub const TOO_MANY_AREAS: u64 = 3;
+pub const UNREADABLE_REG: u64 = 7;
+pub const UNREADABLE_RANGES: u64 = 8;
 
 /// Base, size and the number of the kind.
 pub type Claim = [u64; 3];
 /// Start, end and the number of the kind.
 pub type Entry = [u64; 3];
+
+/// A list of no bytes still has a place.
+const NO_LIST: u64 = 8;
 
 /// Where a call of the Rust stopped.
 #[derive(Debug, PartialEq)]
@@ -26,6 +32,9 @@ enum Stop {
     NoSlot,
     /// `init` asked for a mapper: the areas stand.
     Mapper,
+    /// The Rust unwrapped what the stand-in for `fdt` cannot read.
+    UnreadableReg,
+    UnreadableRanges,
 }
 
 static CALLING: AtomicBool = AtomicBool::new(false);
@@ -42,8 +51,13 @@ pub fn listen() {
     }));
 }
 
-/// Calls the Rust. A panic that is none of the three known ones ends the harness.
+/// Calls the Rust. A panic that is none of the known ones ends the harness.
 fn called(call: impl FnOnce()) -> Option<Stop> {
+    called_with(&[], call)
+}
+
+/// The same, with a tree whose bytes are shown at such an end.
+fn called_with(tree: &[u8], call: impl FnOnce()) -> Option<Stop> {
     CALLING.store(true, Relaxed);
     let result = catch_unwind(AssertUnwindSafe(call));
     CALLING.store(false, Relaxed);
@@ -52,16 +66,21 @@ fn called(call: impl FnOnce()) -> Option<Stop> {
     }
     let panic = PANIC.lock().unwrap().clone();
     let known = [
-        ("Early memory map overflow after combining adjacent regions!", Stop::MapFull),
-        ("index out of bounds: the len is ", Stop::NoSlot),
-        ("failed to create Mapper", Stop::Mapper),
+        ("memory.rs:", "Early memory map overflow after combining adjacent regions!", Stop::MapFull),
+        ("memory.rs:", "index out of bounds: the len is ", Stop::NoSlot),
+        ("memory.rs:", "failed to create Mapper", Stop::Mapper),
+        ("dtb/mod.rs:", "on an `Err` value: UnreadableReg", Stop::UnreadableReg),
+        ("dtb/mod.rs:", "on an `Err` value: UnreadableRanges", Stop::UnreadableRanges),
     ];
-    for (message, stop) in known {
-        if panic.contains("original/memory.rs:") && panic.contains(message) {
+    for (file, message, stop) in known {
+        if panic.contains(&format!("original/{file}")) && panic.contains(message) {
             return Some(stop);
         }
     }
     eprintln!("the Rust panicked otherwise: {panic}");
+    for line in tree.chunks(32) {
+        eprintln!("{}", line.iter().map(|byte| format!("{byte:02x}")).collect::<String>());
+    }
     std::process::abort();
 }
 
@@ -112,6 +131,113 @@ pub fn register_all(list: &[Claim], tail: usize) -> u64 {
     }
 }
 
+/// Whether the build of the kernel is one for 64-bit ARM.
+static ARM: AtomicBool = AtomicBool::new(false);
+/// Whether a claim of the tree goes on to the map.
+static REGISTERING: AtomicBool = AtomicBool::new(false);
+static HEARD: Mutex<Vec<Heard>> = Mutex::new(Vec::new());
+
+/// A claim, and the line of dtb/mod.rs that makes it.
+pub type Heard = (Claim, u32);
+
+pub fn is_arm() -> bool {
+    ARM.load(Relaxed)
+}
+
+/// Whether claims of a tree are kept: they are not where the Rust is timed.
+static LISTENING: AtomicBool = AtomicBool::new(true);
+
+/// Keeps a claim of the tree, one of size 0 too, and answers whether it is to be registered.
+pub fn hear(claim: Claim, line: u32) -> bool {
+    if !LISTENING.load(Relaxed) {
+        return true;
+    }
+    HEARD.lock().unwrap().push((claim, line));
+    REGISTERING.load(Relaxed)
+}
+
+/// startup/mod.rs hands a tree over in whole words, and loses the bytes of a last one that is not whole. Here zeros fill
+/// it, so that nothing is lost.
+pub fn whole_words(tree: &[u8]) -> Vec<u32> {
+    tree.chunks(4)
+        .map(|chunk| {
+            let mut word = [0; 4];
+            word[..chunk.len()].copy_from_slice(chunk);
+            u32::from_ne_bytes(word)
+        })
+        .collect()
+}
+
+/// The kernel's sources with this tree and nothing else in them: where they stopped, and the claims up to there.
+fn hear_tree(tree: &[u8], registering: bool) -> (Option<Stop>, Vec<Heard>) {
+    let words = whole_words(tree);
+    // The Rust wants it for good, and is done with it when the call is.
+    let lent = unsafe { std::slice::from_raw_parts(words.as_ptr(), words.len()) };
+    let args = KernelArgs { areas_base: NO_LIST, tree: lent, ..KernelArgs::default() };
+    REGISTERING.store(registering, Relaxed);
+    let stop = called_with(tree, || register_sources(&args));
+    (stop, std::mem::take(&mut *HEARD.lock().unwrap()))
+}
+
+pub struct TreeCall {
+    pub answer: u64,
+    /// In order. Of a full map: up to and with the one that was refused.
+    pub heard: Vec<Heard>,
+}
+
+/// A tree's claims on the map as it stands. A refused tree leaves the map as it was.
+pub fn register_tree(tree: &[u8], arm: bool) -> TreeCall {
+    let refused = |answer: u64| TreeCall { answer, heard: Vec::new() };
+    if !tree.is_empty()
+        && let Err(answer) = judge(tree)
+    {
+        return refused(answer);
+    }
+    let before = held();
+    ARM.store(arm, Relaxed);
+    // In the Rust a full map can come before an unreadable property. In document 01 it cannot, so the claims are first
+    // heard with none of them registered.
+    let (stop, all) = hear_tree(tree, false);
+    assert_eq!(held(), before, "a claim was registered that was only to be heard");
+    match stop {
+        None => {}
+        Some(Stop::UnreadableReg) => return refused(UNREADABLE_REG),
+        Some(Stop::UnreadableRanges) => return refused(UNREADABLE_RANGES),
+        stop => unreachable!("{stop:?}"),
+    }
+    let (stop, heard) = hear_tree(tree, true);
+    assert!(all.starts_with(&heard), "the claims differ from one call to the next");
+    let after = held();
+    hold(&before);
+    let refusal = heard.iter().position(|(claim, _)| register(*claim) != DONE);
+    match stop {
+        None => {
+            assert!(heard.len() == all.len() && refusal.is_none());
+            assert_eq!(held(), after, "a tree and its single registrations differ");
+            TreeCall { answer: DONE, heard }
+        }
+        Some(Stop::MapFull) => {
+            assert_eq!(refusal.map(|i| i + 1), Some(heard.len()), "a single registration is refused elsewhere");
+            hold(&before);
+            TreeCall { answer: MAP_FULL, heard }
+        }
+        stop => unreachable!("{stop:?}"),
+    }
+}
+
+/// How long the Rust takes to open a tree, handed over in whole words, and to register its claims, with nobody listening.
+#[cfg(feature = "bench")]
+pub fn time_tree(words: &'static [u32]) -> Duration {
+    let args = KernelArgs { areas_base: NO_LIST, tree: words, ..KernelArgs::default() };
+    ARM.store(false, Relaxed);
+    LISTENING.store(false, Relaxed);
+    let start = Instant::now();
+    register_sources(&args);
+    let took = start.elapsed();
+    LISTENING.store(true, Relaxed);
+    took
+}
+
 /// Number `i` of a lent slice before the build.
 fn untouched(i: usize) -> u64 {
     0xa5a5_a5a5_a5a5_0000 + i as u64
@@ -120,8 +246,8 @@ fn untouched(i: usize) -> u64 {
 /// The Rust's `init` on the map as it stands, into these areas.
 fn init_into(areas: &mut [MemoryArea], low: Option<u64>, high: Option<u64>) -> Option<Stop> {
     AREAS.lend(areas);
-    // No source of the kernel's own: every pair is empty. A list of no bytes still has a place.
-    let args = KernelArgs { areas_base: 8, ..KernelArgs::default() };
+    // No source of the kernel's own: every pair is empty.
+    let args = KernelArgs { areas_base: NO_LIST, ..KernelArgs::default() };
     let stop = called(|| {
         unsafe { init(&args, low.map(|x| x as usize), high.map(|x| x as usize)) };
     });

@@ -1,4 +1,4 @@
-//! What the unchanged memory.rs leans on, as far as it names it, and the file itself.
+//! What the unchanged memory.rs and dtb/mod.rs lean on, as far as they name it, and the files themselves.
 
 pub mod arch {
     #[derive(Clone, Copy)]
@@ -39,7 +39,7 @@ pub mod memory {
 }
 
 pub mod startup {
-    pub mod memory {
+    pub mod original {
         include!("original/memory.rs");
 
         // What the harness needs of the file's private items.
@@ -73,6 +73,24 @@ pub mod startup {
             assert!(bytes <= size_of_val(list));
             register_bootloader_areas(list.as_ptr() as usize, bytes);
         }
+
+        /// All sources of the kernel's own, in their order.
+        pub fn register_sources(args: &KernelArgs) {
+            register_memory_from_kernel_args(args);
+        }
+    }
+
+    /// What dtb/mod.rs knows by this name: the file, with the harness listening to each call.
+    pub mod memory {
+        pub use super::original::*;
+
+        #[track_caller]
+        pub fn register_memory_region(base: usize, size: usize, kind: BootloaderMemoryKind) {
+            let line = core::panic::Location::caller().line();
+            if crate::rust::hear([base as u64, size as u64, kind as u64], line) {
+                super::original::register_memory_region(base, size, kind);
+            }
+        }
     }
 
     #[derive(Default)]
@@ -89,19 +107,24 @@ pub mod startup {
         pub areas_size: u64,
         pub bootstrap_base: u64,
         pub bootstrap_size: u64,
+        pub tree: &'static [u32],
     }
 
     impl KernelArgs {
-        /// Built without `--cfg dtb`: never called.
-        pub fn dtb(&self) -> Result<((), &'static [u8]), ()> {
-            Err(())
+        /// As in startup/mod.rs, but that the tree has a place of its own. There it stands at `hwdesc`, which the
+        /// build registers too.
+        pub fn dtb(&self) -> Result<(crate::dtb::Fdt<'static>, &'static [u8]), fdt::FdtError> {
+            if self.tree.is_empty() {
+                return Err(fdt::FdtError::BadPtr);
+            }
+            let bytes = unsafe { core::slice::from_raw_parts(self.tree.as_ptr().cast(), size_of_val(self.tree)) };
+            fdt::Fdt::new(self.tree).map(|tree| (tree, bytes))
         }
     }
 }
 
 pub mod dtb {
-    pub fn register_fixed_reserved_memory_ranges(_tree: &(), _blob: &[u8]) {}
-    pub fn register_dev_memory_ranges(_tree: &()) {}
+    include!("original/dtb/mod.rs");
 }
 
 #[allow(non_snake_case)]
