@@ -1,0 +1,169 @@
+// The order file's layout.
+ghost use mathlib.Core.Path.{_≡_};
+ghost use Prim.Native.Nat.{_+_, _≤_, _<_};
+ghost use lib.ListN.{length};
+ghost use lib.Dec.{eqb};
+ghost use mathlib.Core.Bool.{_||_};
+ghost use Rattle.bootloader.specs.List.{word};
+ghost use Rattle.order.specs.Layout.{half, quarter, limitBy, pairAt, goodOrder, orderIn, orderOf};
+use areas::Limit;
+use cells::Region;
+use fdt::Block;
+
+// What a station's order file says: the flags and limits, five ranges, and where its list and its tree stand.
+pub struct Order {
+    pub arm: bool,
+    pub low: Limit,
+    pub high: Limit,
+    pub kernel: Region,
+    pub env: Region,
+    pub hwdesc: Region,
+    pub bootstrap: Region,
+    pub stack: Region,
+    pub list: Block,
+    pub tree: Block,
+}
+
+// An order file, or that it breaks its layout.
+pub enum OrderRead {
+    Layout(Order),
+    BadOrder,
+}
+
+// The number in the two bytes at a place, the lowest byte first.
+fn half_at(s: &[u8], at: usize) -> usize
+    requires { ⌜ at + 2 ≤ length (now s) ⌝ }
+    ensures { λ r. ⌜ (r ≡ half (now (s .entry)) at) × (r < 65536) ⌝ }
+{
+    s[at] as usize + s[at + 1] as usize * 256
+}
+
+// The number in the four bytes at a place, the lowest byte first.
+fn quarter_at(s: &[u8], at: usize) -> usize
+    requires { ⌜ at + 4 ≤ length (now s) ⌝ }
+    ensures { λ r. ⌜ (r ≡ quarter (now (s .entry)) at) × (r < 4294967296) ⌝ }
+{
+    half_at(s, at) + half_at(s, at + 2) * 65536
+}
+
+fn wide(x: u8) -> u64
+    ensures { λ r. ⌜ (r ≡ x) × (r < 256) ⌝ }
+{
+    x as u64
+}
+
+// The number in the eight bytes at a place, the lowest byte first. The bootloader's list reads its numbers so too, but keeps that to itself.
+fn word_at(s: &[u8], at: usize) -> u64
+    requires { ⌜ at + 8 ≤ length (now s) ⌝ }
+    ensures { λ r. ⌜ r ≡ word (now (s .entry)) at ⌝ }
+{
+    let a = wide(s[at + 7]) * 256 + wide(s[at + 6]);
+    let b = (a * 256 + wide(s[at + 5])) * 256 + wide(s[at + 4]);
+    let c = (b * 256 + wide(s[at + 3])) * 256 + wide(s[at + 2]);
+    (c * 256 + wide(s[at + 1])) * 256 + wide(s[at])
+}
+
+// Whether the limit at a place is flagged, or else 0.
+fn limit_good(s: &[u8], flagged: bool, at: usize) -> bool
+    requires { ⌜ at + 8 ≤ length (now s) ⌝ }
+    ensures { λ r. ⌜ r ≡ (flagged || eqb (word (now (s .entry)) at) 0) ⌝ }
+{
+    if flagged {
+        return true;
+    }
+    word_at(s, at) == 0
+}
+
+// Whether the bytes keep the layout.
+fn good_order(s: &[u8]) -> bool
+    ensures { λ r. ⌜ r ≡ goodOrder (now (s .entry)) ⌝ }
+{
+    if 65536 < s.len() {
+        return false;
+    }
+    if s.len() < 112 {
+        return false;
+    }
+    if s[0] != b'G' {
+        return false;
+    }
+    if s[1] != b'B' {
+        return false;
+    }
+    if s[2] != b'O' {
+        return false;
+    }
+    if half_at(s, 3) != 1 {
+        return false;
+    }
+    let flags = s[5];
+    if 8 <= flags {
+        return false;
+    }
+    if !limit_good(s, flags / 2 % 2 == 1, 8) {
+        return false;
+    }
+    if !limit_good(s, flags / 4 % 2 == 1, 16) {
+        return false;
+    }
+    if quarter_at(s, 108) != 0 {
+        return false;
+    }
+    s.len() == 112 + half_at(s, 6) * 24 + quarter_at(s, 104)
+}
+
+// The limit at a place, missing where it is not flagged.
+fn limit_by(s: &[u8], flagged: bool, at: usize) -> Limit
+    requires { ⌜ at + 8 ≤ length (now s) ⌝ }
+    ensures { λ r. ⌜ r ≡ limitBy flagged (word (now (s .entry)) at) ⌝ }
+{
+    if flagged {
+        return Limit::At(word_at(s, at));
+    }
+    Limit::Missing
+}
+
+// One of the five pairs.
+fn pair_at(s: &[u8], i: usize) -> Region
+    requires { ⌜ (i < 5) × (112 ≤ length (now s)) ⌝ }
+    ensures { λ r. ⌜ r ≡ pairAt (now (s .entry)) i ⌝ }
+{
+    Region {
+        address: word_at(s, 24 + i * 16),
+        size: word_at(s, 32 + i * 16),
+    }
+}
+
+// What an order file that keeps the layout says.
+fn order_in(s: &[u8]) -> Order
+    requires { ⌜ 112 ≤ length (now s) ⌝ }
+    ensures { λ r. ⌜ r ≡ orderIn (now (s .entry)) ⌝ }
+{
+    let flags = s[5];
+    let list = half_at(s, 6) * 24;
+    Order {
+        arm: flags % 2 == 1,
+        low: limit_by(s, flags / 2 % 2 == 1, 8),
+        high: limit_by(s, flags / 4 % 2 == 1, 16),
+        kernel: pair_at(s, 0),
+        env: pair_at(s, 1),
+        hwdesc: pair_at(s, 2),
+        bootstrap: pair_at(s, 3),
+        stack: pair_at(s, 4),
+        list: Block { at: 112, len: list },
+        tree: Block {
+            at: 112 + list,
+            len: quarter_at(s, 104),
+        },
+    }
+}
+
+// Reads an order file.
+pub fn read_order(s: &[u8]) -> OrderRead
+    ensures { λ r. ⌜ r ≡ orderOf (now (s .entry)) ⌝ }
+{
+    if !good_order(s) {
+        return OrderRead::BadOrder;
+    }
+    OrderRead::Layout(order_in(s))
+}
