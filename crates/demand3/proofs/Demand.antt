@@ -62,7 +62,7 @@ some-map P Q cs f s = record { claim = s .claim; among = s .among; is = f (s .cl
 
 module _ (p : ℕ) (cs : List Claim) (g : Page p) (done : Accepted p cs) (x : ℕ) where
   -- an address lies in a Free entry exactly when a Free registration, rounded inward by itself, is over it
-  free-lies-over : LiesFree x (mapAfter p cs) ↔ Some (FreeOver p x) cs
+  pub free-lies-over : LiesFree x (mapAfter p cs) ↔ Some (FreeOver p x) cs
   free-lies-over =
       let h = plain-sets p cs g done (numberOf Free) x in (
         λ l. some-map _ _ cs (λ c r. free-over p x c .0 r) (h .0 (record { slot = l .slot; held = l .held; found = record { kind = l .kind; has = l .has } })),
