@@ -124,7 +124,7 @@ fn register_judged<'a>(
     let answer = r.answer;
     let Answer::Done = answer else {
         return TreeRegistered {
-            map,
+            map, // as it came
             answer: TreeAnswer::MapFull,
         };
     };
