@@ -1,0 +1,2 @@
+-- What the walks of both functions use.
+mod Lent
