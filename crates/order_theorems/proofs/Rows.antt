@@ -1,0 +1,295 @@
+-- The table of document 01, "Numbers a caller gets back", over whole order files: every number is given exactly when its row says so and
+-- no row above it does; a refused build writes nothing, and a finished one its areas. Assumes nothing.
+use mathlib.Core.Path.{_≡_, refl, sym, _∙_, ap, subst}
+use mathlib.Core.Logic.{_↔_, ⊎-elim}
+use mathlib.Core.Bool.{Bool, true, false, cond}
+use mathlib.Core.List.{List, _++_, List·Memᴰ·append-cases, List·Memᴰ·not-nil}
+use Prim.Native.Nat.{ℕ, _+_, _≤_, _<_}
+use native.Mathlib.Omega.{arith}
+use lib.Dec.{eqb}
+use lib.ListN.{length, drop}
+use borrow.Author.Tests.{leb-true, leb-false}
+use Rattle.words.proofs.BytesLaws.{cond-elim, never}
+use Rattle.page.specs.Round.{Page}
+use Rattle.entry.specs.Kind.{kindOf}
+use Rattle.memory.specs.declared.Answer.{Answer}
+use Rattle.memory.specs.declared.Answer.the-variants.{Done as RunDone, UnknownKind as RunUnknown, MapFull as RunFull}
+use Rattle.memory.specs.declared.Registered.{Registered}
+use Rattle.memory.specs.Map.{blank}
+use Rattle.memory.specs.Run.{isDone}
+use Rattle.memory.proofs.MapLaws.{blank-made}
+use Rattle.bootloader.specs.List.{allOf, claims}
+use Rattle.runs.proofs.Refusals.{Kinds, judged, run-known, run-full}
+use Rattle.areas.specs.Table.{flat, slotsIn, fits, tableOf}
+use Rattle.areas.proofs.Lists.{le-or-lt}
+use Rattle.areas.proofs.MadeLaws.{areasOf-few}
+use Rattle.demand3.specs.Rule.{Accepted, mapAfter}
+use Rattle.demand3.proofs.Demand.{after-made}
+use Rattle.sheet.specs.declared.PageSheet.{PageSheet}
+use Rattle.sheet.specs.Sheet.{mapSheet}
+use Rattle.fdt.specs.declared.Opened.{Opened}
+use Rattle.fdt.specs.declared.Opened.the-variants.{NoTree, Tree, BadHeader as NoHeader, OverLimit as Over, BadStructure as NoStructure}
+use Rattle.fdt.specs.Opening.{openedOf}
+use Rattle.grammar.proofs.OpeningLaws.{opened-blocks}
+use Rattle.claims.specs.declared.Judged.{Judged}
+use Rattle.claims.specs.Claims.{isVirt}
+use Rattle.claims.specs.Judging.{badReg, badRanges, judgedOf}
+use Rattle.order.specs.declared.Order.{Order}
+use Rattle.order.specs.Layout.{goodOrder, orderIn, orderOf}
+use Rattle.order.proofs.OrderLaws.{good-order, order-bad, order-good}
+use Rattle.tree_theorems.proofs.ClaimKinds.{claims-known}
+use Rattle.startup.specs.declared.Refusal.{Refusal}
+use Rattle.startup.specs.declared.Refusal.the-variants.{BadOrder, UnknownKind, BadHeader, OverLimit, BadStructure, UnreadableReg, UnreadableRanges, MapFull, TooManyAreas}
+use Rattle.startup.specs.declared.Verdict.{Verdict}
+use Rattle.startup.specs.declared.Verdict.the-variants.{Accepted as Taken, Rejected}
+use Rattle.startup.specs.declared.Report.{Report}
+use Rattle.startup.specs.declared.Report.the-variants.{Done, Refused}
+use Rattle.startup.specs.Sources.{listIn, claimsBy, treeClaims, pairClaims, registrations}
+use Rattle.startup.specs.Verdict.{firstOf, listVerdict, judgedVerdict, openedVerdict, treeVerdict, mapVerdict, runOf, verdictOf}
+use Rattle.startup.specs.Report.{finished, verdictReport, verdictSlots, readReport, readSlots, reportOf, slotsAfter}
+use Rattle.order_theorems.specs.Rows.{rank, fileClaims, fileAreas, fileTree, fileRoot, HasTree, Row, Due}
+
+-- ── Ranks ──
+
+-- the refusal of a rank
+abbrev ranked : ℕ → Refusal
+ranked n =
+    cond (eqb n 0) BadOrder
+    (cond (eqb n 1) UnknownKind
+    (cond (eqb n 2) BadHeader
+    (cond (eqb n 3) OverLimit
+    (cond (eqb n 4) BadStructure
+    (cond (eqb n 5) UnreadableReg
+    (cond (eqb n 6) UnreadableRanges
+    (cond (eqb n 7) MapFull TooManyAreas)))))))
+
+-- every refusal is that of its rank, which is one of nine
+rank-of : (r : Refusal) → (ranked (rank r) ≡ r) × (rank r < 9)
+rank-of BadOrder = (refl, omega arith)
+rank-of UnknownKind = (refl, omega arith)
+rank-of BadHeader = (refl, omega arith)
+rank-of OverLimit = (refl, omega arith)
+rank-of BadStructure = (refl, omega arith)
+rank-of UnreadableReg = (refl, omega arith)
+rank-of UnreadableRanges = (refl, omega arith)
+rank-of MapFull = (refl, omega arith)
+rank-of TooManyAreas = (refl, omega arith)
+
+rank-one : (q r : Refusal) → rank q ≡ rank r → q ≡ r
+rank-one q r e = sym (rank-of q .0) ∙ ap ranked e ∙ rank-of r .0
+
+-- ── The kinds of a file's registrations ──
+opened-known : (t : List ℕ) (arm : Bool) (x : Opened) → Kinds (claimsBy t arm x)
+opened-known t arm (Tree k) = claims-known arm _ _
+opened-known t arm NoTree = λ c m. absurd (List·Memᴰ·not-nil m)
+opened-known t arm NoHeader = λ c m. absurd (List·Memᴰ·not-nil m)
+opened-known t arm Over = λ c m. absurd (List·Memᴰ·not-nil m)
+opened-known t arm NoStructure = λ c m. absurd (List·Memᴰ·not-nil m)
+
+tree-known : (t : List ℕ) (arm : Bool) → Kinds (treeClaims t arm)
+unfolding treeClaims
+tree-known t arm = opened-known t arm (openedOf t)
+
+-- the five pairs' kinds are judged by computation
+pairs-known : (o : Order) → Kinds (pairClaims o)
+unfolding pairClaims allOf kindOf
+pairs-known o = ⊎-elim (λ y. y .1) (λ y. let e = y .0 in never (cc)) (judged (pairClaims o))
+
+-- all registrations have a kind, where those of the list have
+sources-known : (s : List ℕ) (o : Order) → Kinds (claims (listIn s o)) → Kinds (registrations s o)
+unfolding registrations
+sources-known s o f c m =
+    ⊎-elim (f c) (λ n. ⊎-elim (tree-known _ _ c) (pairs-known o c) (List·Memᴰ·append-cases _ n)) (List·Memᴰ·append-cases _ m)
+
+module _ (p : ℕ) (s l : List ℕ) where
+  abbrev o : Order
+  o = orderIn s
+
+  abbrev run : Registered
+  run = runOf p s o
+
+  abbrev fileSheet : PageSheet
+  fileSheet = mapSheet p (o .low) (o .high) (mapAfter p (fileClaims s))
+
+  -- ── Row after row ──
+
+  -- no row of a rank below n holds
+  abbrev Clear : ℕ → Type 0
+  Clear n = Page p → (q : Refusal) → rank q < n → Row p s l q → ⊥
+
+  none-yet : Clear 0
+  none-yet g q h w = omega arith
+
+  next : (r : Refusal) → Clear (rank r) → (Page p → Row p s l r → ⊥) → Clear (rank r + 1)
+  next r c f g q h w =
+      ⊎-elim
+      (λ (u : rank r ≤ rank q). f g (subst (Row p s l) (rank-one q r (omega arith)) w))
+      (λ u. c g q u w)
+      (le-or-lt (rank r) (rank q))
+
+  -- what holds where the report is done, and these are the slots afterwards
+  record Ends (n : ℕ) (sheet : PageSheet) (l′ : List ℕ) : Type 0 where
+    clear : Page p → (q : Refusal) → Row p s l q → ⊥
+    accepted : Accepted p (fileClaims s)
+    count : n ≡ length (fileAreas p s)
+    pages : sheet ≡ fileSheet
+    writes : l′ ≡ flat (fileAreas p s) ++ drop (n + n) l
+
+  -- and where it is any
+  abbrev Says : Report → List ℕ → Type 0
+  Says (Refused r) l′ = (Page p → Due p s l r) × (l′ ≡ l)
+  Says (Done n sheet) l′ = Ends n sheet l′
+
+  due : (r : Refusal) → Clear (rank r) → (Page p → Row p s l r) → Says (Refused r) l
+  due r c f = (λ g. (f g, c g), refl)
+
+  -- ── Step after step, from the last ──
+
+  -- 3, or done
+  by-areas : Accepted p (fileClaims s) → Clear 8 → Says (finished (fileAreas p s) fileSheet l) (tableOf (fileAreas p s) l)
+  unfolding finished tableOf
+  by-areas a c = go (fits (fileAreas p s) l) refl
+    where
+      go : (t : Bool) → fits (fileAreas p s) l ≡ t
+          → Says (cond t (Done (length (fileAreas p s)) fileSheet) (Refused TooManyAreas))
+          (cond t (flat (fileAreas p s) ++ drop (length (fileAreas p s) + length (fileAreas p s)) l) l)
+      go true e =
+          let f : length (fileAreas p s) ≤ slotsIn l = leb-true _ _ e in
+          record {
+            clear = λ g q. next TooManyAreas c (λ g w. omega arith) g q (rank-of q .1);
+            accepted = a;
+            count = refl;
+            pages = refl;
+            writes = refl;
+          }
+      go false e = due TooManyAreas c (λ g. leb-false _ _ e)
+
+  -- under a verdict
+  abbrev Under : Verdict → Type 0
+  Under v = Says (verdictReport v (finished (fileAreas p s) fileSheet l)) (verdictSlots v l (tableOf (fileAreas p s) l))
+
+  -- 2
+  by-map : Kinds (claims (listIn s o)) → Clear 7 → Under (mapVerdict run)
+  unfolding mapVerdict
+  by-map k c = go (run .answer) refl
+    where
+      full : Page p → (run .answer ≡ RunFull) ↔ Row p s l MapFull
+      full g = run-full p blank (fileClaims s) g (blank-made p)
+
+      go : (a : Answer) → run .answer ≡ a → Under (cond (isDone a) Taken (Rejected MapFull))
+      go RunDone e = by-areas e (next MapFull c (λ g w. let f = full g .1 w in never (cc)))
+      go RunUnknown e = absurd (run-known p blank (fileClaims s) (sources-known s o k) e)
+      go RunFull e = due MapFull c (λ g. full g .0 e)
+
+  -- under a verdict on the tree, where the map's comes next
+  abbrev UnderTree : Verdict → Type 0
+  UnderTree v = Under (firstOf v (mapVerdict run))
+
+  -- 7 and 8
+  by-judging : Kinds (claims (listIn s o)) → HasTree s → Clear 5 → UnderTree (judgedVerdict (judgedOf (o .arm) (fileRoot s)))
+  unfolding judgedOf
+  by-judging k t c5 =
+      cond-elim P (badReg (fileRoot s)) _ _
+      (λ r. due UnreadableReg c5 (λ g. (t, r)))
+      (λ r.
+      let c6 : Clear 6 = next UnreadableReg c5 (λ g w. never (cc)) in
+      cond-elim P (isVirt (o .arm) (fileRoot s)) _ _
+      (λ v. by-map k (next UnreadableRanges c6 (λ g w. never (cc))))
+      (λ v.
+      cond-elim P (badRanges (fileRoot s)) _ _
+      (λ b. due UnreadableRanges c6 (λ g. (t, v, b)))
+      (λ b. by-map k (next UnreadableRanges c6 (λ g w. never (cc))))))
+    where
+      P : Judged → Type 0
+      P j = UnderTree (judgedVerdict j)
+
+  -- 4, 6 and 5
+  by-opening : Kinds (claims (listIn s o)) → Clear 2 → (x : Opened) → openedOf (fileTree s) ≡ x → UnderTree (openedVerdict (fileTree s) (o .arm) x)
+  by-opening k c2 NoHeader e = due BadHeader c2 (λ g. e)
+  by-opening k c2 Over e = due OverLimit (next BadHeader c2 (λ g w. never (cc))) (λ g. e)
+  by-opening k c2 NoStructure e =
+      let c3 : Clear 3 = next BadHeader c2 (λ g w. never (cc)) in
+      due BadStructure (next OverLimit c3 (λ g w. never (cc))) (λ g. e)
+  by-opening k c2 NoTree e =
+      let c3 : Clear 3 = next BadHeader c2 (λ g w. never (cc)) in
+      let c4 : Clear 4 = next OverLimit c3 (λ g w. never (cc)) in
+      let c5 : Clear 5 = next BadStructure c4 (λ g w. never (cc)) in
+      let c6 : Clear 6 = next UnreadableReg c5 (λ g w. never (cc)) in
+      by-map k (next UnreadableRanges c6 (λ g w. never (cc)))
+  by-opening k c2 (Tree b) e =
+      let c3 : Clear 3 = next BadHeader c2 (λ g w. never (cc)) in
+      let c4 : Clear 4 = next OverLimit c3 (λ g w. never (cc)) in
+      by-judging k (e ∙ ap Tree (opened-blocks (fileTree s) b e)) (next BadStructure c4 (λ g w. never (cc)))
+
+  -- 1
+  by-list : Clear 1 → Under (verdictOf p s o)
+  unfolding verdictOf listVerdict treeVerdict
+  by-list c =
+      ⊎-elim
+      (λ y. rw (y .0) (by-opening (y .1) (next UnknownKind c (λ g w. w .is (y .1 (w .claim) (w .among)))) (openedOf (fileTree s)) refl))
+      (λ y. rw (y .0) (due UnknownKind c (λ g. y .1)))
+      (judged (claims (listIn s o)))
+
+  -- 9
+  says : Says (reportOf p s l) (slotsAfter p s l)
+  unfolding reportOf slotsAfter
+  says = go (goodOrder s) refl
+    where
+      go : (t : Bool) → goodOrder s ≡ t → Says (readReport p s l (orderOf s)) (readSlots p s l (orderOf s))
+      go true e = rw (order-good s e) (by-list (next BadOrder none-yet (λ g w. w (good-order s .0 e))))
+      go false e = rw (order-bad s e) (due BadOrder none-yet (λ g w. let x = good-order s .1 w in never (cc)))
+
+  says-of : (x : Report) → reportOf p s l ≡ x → Says x (slotsAfter p s l)
+  says-of x e = subst (λ y. Says y (slotsAfter p s l)) e says
+
+  -- ── The theorems ──
+
+  -- EACH NUMBER IS GIVEN EXACTLY WHEN its row says so and no row above it does
+  pub exactly : Page p → (r : Refusal) → (reportOf p s l ≡ Refused r) ↔ Due p s l r
+  exactly g r = (λ e. says-of (Refused r) e .0 g, λ d. go d (reportOf p s l) refl)
+    where
+      go : Due p s l r → (x : Report) → reportOf p s l ≡ x → reportOf p s l ≡ Refused r
+      go d (Refused q) e =
+          let w : Due p s l q = says-of (Refused q) e .0 g in
+          ⊎-elim
+          (λ (u : rank r ≤ rank q). ⊎-elim
+          (λ (v : rank q ≤ rank r). e ∙ ap Refused (rank-one q r (omega arith)))
+          (λ v. absurd (w .1 r v (d .0)))
+          (le-or-lt (rank q) (rank r)))
+          (λ u. absurd (d .1 q u (w .0)))
+          (le-or-lt (rank r) (rank q))
+      go d (Done n sheet) e = absurd (says-of (Done n sheet) e .clear g r (d .0))
+
+  -- DONE EXACTLY WHEN no row holds, and then with the count of the areas and their page sheet
+  pub done-exactly : Page p → (n : ℕ) (sheet : PageSheet)
+      → (reportOf p s l ≡ Done n sheet)
+      ↔ (((q : Refusal) → Row p s l q → ⊥)
+      × (n ≡ length (fileAreas p s))
+      × (sheet ≡ mapSheet p (orderIn s .low) (orderIn s .high) (mapAfter p (fileClaims s))))
+  done-exactly g n sheet = (
+    λ e. let w = says-of (Done n sheet) e in (w .clear g, w .count, w .pages),
+    λ d. go (d .0) (d .1) (d .2) (reportOf p s l) refl,
+  )
+    where
+      go : ((q : Refusal) → Row p s l q → ⊥) → n ≡ length (fileAreas p s) → sheet ≡ fileSheet → (x : Report) → reportOf p s l ≡ x → reportOf p s l ≡ Done n sheet
+      go f a b (Refused q) e = absurd (f q (says-of (Refused q) e .0 g .0))
+      go f a b (Done m t) e = let w = says-of (Done m t) e in rw (a, b, ← w .count, ← w .pages) e
+
+  -- "A refused list, tree or build .. writes nothing."
+  pub refused-writes-nothing : (r : Refusal) → reportOf p s l ≡ Refused r → slotsAfter p s l ≡ l
+  refused-writes-nothing r e = says-of (Refused r) e .1
+
+  -- "Areas are (base, size)"; "all past the count is untouched"
+  pub done-writes : (n : ℕ) (sheet : PageSheet) → reportOf p s l ≡ Done n sheet → slotsAfter p s l ≡ flat (fileAreas p s) ++ drop (n + n) l
+  done-writes n sheet e = says-of (Done n sheet) e .writes
+
+  -- then no registration was refused, as demand 3 asks
+  pub done-accepted : (n : ℕ) (sheet : PageSheet) → reportOf p s l ≡ Done n sheet → Accepted p (fileClaims s)
+  done-accepted n sheet e = says-of (Done n sheet) e .accepted
+
+  -- 512 slots are enough, since there are never more areas than entries held
+  pub enough-slots : Page p → 1024 ≤ length l → reportOf p s l ≡ Refused TooManyAreas → ⊥
+  enough-slots g h e =
+      let w = exactly g TooManyAreas .0 e .0 in
+      let m = after-made p (fileClaims s) g in
+      omega (arith, w, areasOf-few m (o .low) (o .high), m .room)

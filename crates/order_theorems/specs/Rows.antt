@@ -1,0 +1,77 @@
+-- The table of document 01, "Numbers a caller gets back", over an order file's bytes s and the lent slots l.
+use mathlib.Core.Path.{_≡_}
+use Prim.Native.Nat.{ℕ, _<_}
+use mathlib.Core.Bool.{true, false}
+use mathlib.Core.List.{List}
+use lib.ListN.{length}
+use Rattle.entry.specs.Kind.{IsKind}
+use Rattle.entry.specs.Claim.{Claim}
+use Rattle.memory.specs.Map.{blank}
+use Rattle.bootloader.specs.List.{claims}
+use Rattle.runs.specs.Sets.{Some}
+use Rattle.runs.specs.Refusals.{Overflows}
+use Rattle.areas.specs.Interval.{Interval}
+use Rattle.areas.specs.Table.{slotsIn}
+use Rattle.demand3.specs.Rule.{areasAfter}
+use Rattle.fdt.specs.declared.Opened.the-variants.{Tree, BadHeader as NoHeader, OverLimit as Over, BadStructure as NoStructure}
+use Rattle.fdt.specs.Header.{structureOf, stringsOf}
+use Rattle.fdt.specs.Tree.{Nodes, treeOf}
+use Rattle.fdt.specs.Opening.{blocksOf, openedOf}
+use Rattle.claims.specs.Claims.{isVirt}
+use Rattle.claims.specs.Judging.{badReg, badRanges}
+use Rattle.order.specs.Layout.{GoodOrder, orderIn}
+use Rattle.startup.specs.declared.Refusal.{Refusal}
+use Rattle.startup.specs.declared.Refusal.the-variants.{BadOrder, UnknownKind, BadHeader, OverLimit, BadStructure, UnreadableReg, UnreadableRanges, MapFull, TooManyAreas}
+use Rattle.startup.specs.Sources.{listIn, treeIn, registrations}
+
+-- "Checked in this order"
+abbrev pub rank : Refusal → ℕ
+rank BadOrder = 0
+rank UnknownKind = 1
+rank BadHeader = 2
+rank OverLimit = 3
+rank BadStructure = 4
+rank UnreadableReg = 5
+rank UnreadableRanges = 6
+rank MapFull = 7
+rank TooManyAreas = 8
+
+-- the registrations of a file, read by its layout, and its finished areas
+abbrev pub fileClaims : List ℕ → List Claim
+fileClaims s = registrations s (orderIn s)
+
+abbrev pub fileAreas : ℕ → List ℕ → List Interval
+fileAreas p s = areasAfter p (orderIn s .low) (orderIn s .high) (fileClaims s)
+
+-- the tree's bytes, and the tree
+abbrev pub fileTree : List ℕ → List ℕ
+fileTree s = treeIn s (orderIn s)
+
+abbrev pub fileRoot : List ℕ → Nodes
+fileRoot s = treeOf (structureOf (fileTree s)) (stringsOf (fileTree s))
+
+abbrev pub HasTree : List ℕ → Type 0
+HasTree s = openedOf (fileTree s) ≡ Tree (blocksOf (fileTree s))
+
+-- what each row says
+abbrev pub Row : ℕ → List ℕ → List ℕ → Refusal → Type 0
+-- 9: "order file breaks its layout, or is longer than 65,536"
+Row p s l BadOrder = GoodOrder s → ⊥
+-- 1: "a kind is none of the seven, size 0 included"
+Row p s l UnknownKind = Some (λ c. IsKind (c .kind) → ⊥) (claims (listIn s (orderIn s)))
+-- 4: "tree header broken"; 6: "tree over a size, level or node limit"; 5: "tree structure broken"
+Row p s l BadHeader = openedOf (fileTree s) ≡ NoHeader
+Row p s l OverLimit = openedOf (fileTree s) ≡ Over
+Row p s l BadStructure = openedOf (fileTree s) ≡ NoStructure
+-- 7: "a counted reserved child's nonempty `reg` is unreadable"
+Row p s l UnreadableReg = HasTree s × (badReg (fileRoot s) ≡ true)
+-- 8: "a readable /soc entry meets an unreadable `ranges`", where /soc is read at all
+Row p s l UnreadableRanges = HasTree s × (isVirt (orderIn s .arm) (fileRoot s) ≡ false) × (badRanges (fileRoot s) ≡ true)
+-- 2: "map full"
+Row p s l MapFull = Overflows p blank (fileClaims s)
+-- 3: "more areas than slots"
+Row p s l TooManyAreas = slotsIn l < length (fileAreas p s)
+
+-- "Given exactly when" its row says so, and no row above it does
+abbrev pub Due : ℕ → List ℕ → List ℕ → Refusal → Type 0
+Due p s l r = Row p s l r × ((q : Refusal) → rank q < rank r → Row p s l q → ⊥)

@@ -1,0 +1,6 @@
+pub mod PairLaws
+pub mod ListLaws
+pub mod TreeLaws
+pub mod SourceLaws
+pub mod SheetLaws
+pub mod ReportLaws
