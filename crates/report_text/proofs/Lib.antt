@@ -1,0 +1,4 @@
+pub mod DigitsLaws
+pub mod Examples
+pub mod TextLaws
+pub mod WritingLaws
