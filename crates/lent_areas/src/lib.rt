@@ -38,7 +38,7 @@ fn table_for(map: MemoryMap, low: Limit, high: Limit, room: usize) -> AreaTable
             if room < n {
                 return AreaTable {
                     slots,
-                    count: 0,
+                    count: 0, // nothing is written
                     answer: Built::TooManyAreas,
                 };
             }

@@ -1,0 +1,62 @@
+/* The build of document 01 for a web service: an order file in, the area table with its page sheet out.
+ *
+ * Every call answers for all bytes of the file, keeps nothing, and shares nothing with another call: threads may call at once.
+ * No pointer may be null, also where the length beside it is 0; slots are aligned as uint64_t is; what one call is lent
+ * does not overlap. */
+#ifndef WHARFTHRUM_H
+#define WHARFTHRUM_H
+
+#include <stddef.h>
+#include <stdint.h>
+
+#ifdef __cplusplus
+extern "C" {
+#endif
+
+/* Slots of a report. A slot is two numbers, base and size. */
+#define WHARFTHRUM_SLOTS 512
+/* Bytes of the buffer for a report's text: 512 areas, and room for every number. */
+#define WHARFTHRUM_TEXT 17500
+/* Bytes of the longest order file. A longer one is refused by its length alone, so no more than one byte more need be read. */
+#define WHARFTHRUM_FILE 65536
+
+/* The numbers, in the order in which they are checked: the first fault decides. */
+enum {
+    WHARFTHRUM_DONE = 0,              /* done */
+    WHARFTHRUM_BAD_ORDER = 9,         /* the order file breaks its layout, or is longer than 65,536 bytes */
+    WHARFTHRUM_UNKNOWN_KIND = 1,      /* a kind in the list is none of the seven, size 0 included */
+    WHARFTHRUM_BAD_HEADER = 4,        /* the tree's header is broken */
+    WHARFTHRUM_OVER_LIMIT = 6,        /* the tree is over a size, level or node limit */
+    WHARFTHRUM_BAD_STRUCTURE = 5,     /* the tree's structure is broken */
+    WHARFTHRUM_UNREADABLE_REG = 7,    /* a counted reserved child's nonempty `reg` is unreadable */
+    WHARFTHRUM_UNREADABLE_RANGES = 8, /* a readable /soc entry meets an unreadable `ranges` */
+    WHARFTHRUM_MAP_FULL = 2,          /* the map is full */
+    WHARFTHRUM_TOO_MANY_AREAS = 3     /* there are more areas than slots */
+};
+
+/* What a build answers. A refusal has 0 in every field but the first. */
+typedef struct WharfthrumReport {
+    uint64_t number;    /* 0, or the number of the refusal */
+    uint64_t count;     /* how many areas were written */
+    uint64_t free;      /* Free pages inside the limits, of 4,096 bytes */
+    uint64_t usable;    /* usable pages */
+    uint64_t has_share; /* 1 if a page is Free, else 0 */
+    double share;       /* usable over Free, rounded once; 0.0 where has_share is 0 */
+} WharfthrumReport;
+
+/* Builds the area table of a file in the lent slots: base and size of each area, sorted by base. `numbers` is the count of the numbers
+ * lent, so numbers / 2 slots: an odd one at the end is no slot. All past the count is untouched, and a refusal writes nothing. */
+WharfthrumReport wharfthrum_build(const uint8_t *file, size_t bytes, uint64_t *slots, size_t numbers);
+
+/* The same in 512 slots, with the report's text at the start of the buffer; the rest of it is untouched. Answers how many bytes the text
+ * has. It ends in a newline and not in a zero byte. `slots` has 2 * WHARFTHRUM_SLOTS numbers and `text` has WHARFTHRUM_TEXT bytes. */
+size_t wharfthrum_report(const uint8_t *file, size_t bytes, uint64_t *slots, uint8_t *text);
+
+/* The number alone that a file is answered with under 512 slots, for a form that only checks it. */
+uint64_t wharfthrum_number(const uint8_t *file, size_t bytes);
+
+#ifdef __cplusplus
+}
+#endif
+
+#endif
