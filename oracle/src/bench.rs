@@ -1,4 +1,5 @@
 //! Times our compiled crates against the unchanged Rust, in one process and in alternating rounds.
+use crate::bench_whole;
 use crate::blob::{Blocks, Node, Order};
 use crate::rust::{self, Claim, Entry};
 use crate::startup::original::{held, hold, kind_of, register_list, register_memory_region};
@@ -32,13 +33,13 @@ unsafe extern "C" {
 }
 
 /// The same work twice: each answers what it took, and a count that must be equal.
-struct Work {
-    name: &'static str,
-    rust: Box<dyn Fn() -> (Duration, usize)>,
-    ours: Box<dyn Fn() -> (Duration, usize)>,
+pub struct Work {
+    pub name: &'static str,
+    pub rust: Box<dyn Fn() -> (Duration, usize)>,
+    pub ours: Box<dyn Fn() -> (Duration, usize)>,
 }
 
-fn timed(call: impl FnOnce() -> usize) -> (Duration, usize) {
+pub fn timed(call: impl FnOnce() -> usize) -> (Duration, usize) {
     let start = Instant::now();
     let count = black_box(call());
     (start.elapsed(), count)
@@ -127,7 +128,7 @@ fn build(name: &'static str, claims: &[Claim]) -> Work {
     }
 }
 
-fn cells(numbers: &[u32]) -> Vec<u8> {
+pub fn cells(numbers: &[u32]) -> Vec<u8> {
     numbers.iter().flat_map(|number| number.to_be_bytes()).collect()
 }
 
@@ -146,7 +147,7 @@ fn device(at: u32) -> Node {
 
 /// A board of so many nodes: ten on the way to them, one device in sixteen right below /soc, and the others on four
 /// buses in it, of which the last has the console at its end. Devices stand two pages apart, 500 of them in turn.
-fn board(nodes: u32) -> Vec<u8> {
+pub fn board(nodes: u32) -> Vec<u8> {
     let devices = nodes - 10;
     let at = |i: u32| 0x1_0000 + i % 500 * 0x2000;
     let (direct, nested): (Vec<u32>, Vec<u32>) = (0..devices).partition(|i| i % 16 == 0);
@@ -218,8 +219,8 @@ fn median(mut times: Vec<Duration>) -> f64 {
 }
 
 pub fn run() {
-    println!("{:<44} {:>10} {:>10} {:>7}", "nanoseconds a call, medians of 301 rounds", "Rust", "ours", "ratio");
-    for work in works() {
+    println!("{:<52} {:>10} {:>10} {:>7}", "nanoseconds a call, medians of 301 rounds", "Rust", "ours", "ratio");
+    for work in works().into_iter().chain(bench_whole::works()) {
         let (mut rust, mut ours) = (Vec::new(), Vec::new());
         for _ in 0..ROUNDS {
             let (took, count) = (work.rust)();
@@ -229,8 +230,9 @@ pub fn run() {
             assert_eq!(count, same, "{}", work.name);
         }
         let (rust, ours) = (median(rust), median(ours));
-        println!("{:<44} {rust:>10.0} {ours:>10.0} {:>7.2}", work.name, ours / rust);
+        println!("{:<52} {rust:>10.0} {ours:>10.0} {:>7.2}", work.name, ours / rust);
     }
     println!("(b) the Rust over the stand-in for the crate fdt, which opens and does not judge");
     println!("(a) where the Rust panics: its time has the unwinding, and catching it, in it");
+    println!("(c) ours is handed the order file, which it reads and judges, and makes the page sheet too");
 }

@@ -6,12 +6,14 @@ use crate::startup::original::{held, hold};
 pub const PAGE: u64 = 4096;
 /// The start of the last page.
 pub const T: u64 = PAGE.wrapping_neg();
+pub const NULL: u64 = 0;
 pub const FREE: u64 = 1;
 pub const RESERVED: u64 = 3;
-const KERNEL: u64 = 0x100;
-const IDENTITY_MAP: u64 = 0x102;
-pub const KINDS: [u64; 7] = [0, FREE, 2, RESERVED, KERNEL, 0x101, IDENTITY_MAP];
-const NO_KINDS: [u64; 8] = [4, 0xff, 0x103, 0x200, 0x1_0000_0001, 1 << 63, u64::MAX - 1, u64::MAX];
+pub const KERNEL: u64 = 0x100;
+pub const DEVICE: u64 = 0x101;
+pub const IDENTITY_MAP: u64 = 0x102;
+pub const KINDS: [u64; 7] = [NULL, FREE, 2, RESERVED, KERNEL, DEVICE, IDENTITY_MAP];
+pub const NO_KINDS: [u64; 8] = [4, 0xff, 0x103, 0x200, 0x1_0000_0001, 1 << 63, u64::MAX - 1, u64::MAX];
 
 pub struct Case {
     pub claims: Vec<Claim>,
@@ -26,7 +28,7 @@ pub struct Case {
 }
 
 impl Rng {
-    fn size(&mut self, pages: u64) -> u64 {
+    pub fn size(&mut self, pages: u64) -> u64 {
         if self.one_in(4) {
             return self.pick(&[0, 1, 2, 0x7ff, 0x800, 0xfff, 0x1000, 0x1001, 0x1fff, 0x2000]);
         }
@@ -46,7 +48,7 @@ impl Rng {
     }
 
     /// Ranges that touch, overlap and hold one another, in a window of few pages.
-    fn window(&mut self) -> Vec<Claim> {
+    pub fn window(&mut self) -> Vec<Claim> {
         let pages = 16 + self.below(49);
         let start = match self.below(4) {
             0 => 0,
@@ -65,7 +67,7 @@ impl Rng {
     }
 
     /// Numbers at the top, where sums pass 2^64, and numbers from anywhere.
-    fn top(&mut self) -> Vec<Claim> {
+    pub fn top(&mut self) -> Vec<Claim> {
         let kinds = self.palette();
         let edges = [0, PAGE, 1 << 32, 1 << 63, T - PAGE, T - 1, T, T + 1, u64::MAX - 1, u64::MAX];
         (0..self.below(13))
@@ -82,7 +84,7 @@ impl Rng {
     }
 
     /// Large Free ranges, and many small ones of other kinds in and around them.
-    fn carved(&mut self) -> Vec<Claim> {
+    pub fn carved(&mut self) -> Vec<Claim> {
         let start = self.below(1 << 20) * PAGE;
         let mut claims = Vec::new();
         for _ in 0..=self.below(3) {

@@ -2,6 +2,7 @@
 use crate::choices::Maker;
 use crate::rust::{self, Entry, TreeCall, register_tree};
 use crate::startup::original::{held, hold};
+use crate::tally::Tally;
 use crate::tree_cases::TreeCase;
 use crate::tree_edges::edges;
 use std::collections::BTreeMap;
@@ -31,52 +32,19 @@ impl Bytes {
     }
 }
 
-/// How often something came up, and how often of these the tree was done.
-#[derive(Clone, Copy, Default)]
-struct Times {
-    all: u64,
-    done: u64,
+/// Counts an answer, and the claims by the line of dtb/mod.rs that makes them.
+fn count(tally: &mut Tally, lines: &mut BTreeMap<u32, u64>, call: &TreeCall) {
+    tally.answer(call.answer);
+    for (_, line) in &call.heard {
+        *lines.entry(*line).or_default() += 1;
+    }
 }
 
-#[derive(Default)]
-struct Tally {
-    answers: BTreeMap<u64, u64>,
-    /// Claims by the line of dtb/mod.rs that makes them.
-    lines: BTreeMap<u32, u64>,
-    choices: BTreeMap<&'static str, Times>,
-}
-
-impl Tally {
-    fn answer(&mut self, call: &TreeCall) {
-        *self.answers.entry(call.answer).or_default() += 1;
-        for (_, line) in &call.heard {
-            *self.lines.entry(*line).or_default() += 1;
-        }
-    }
-
-    fn choices<'a>(&mut self, chosen: impl IntoIterator<Item = &'a &'static str>, done: bool) {
-        for name in chosen {
-            let times = self.choices.entry(name).or_default();
-            times.all += 1;
-            times.done += u64::from(done);
-        }
-    }
-
-    /// A line for each group of choices: each with its cases, and those of them that were done.
-    fn print(&self) {
-        let answers: Vec<String> = self.answers.iter().map(|(answer, times)| format!("{answer} {times}")).collect();
-        let lines: Vec<String> = self.lines.iter().map(|(line, times)| format!("{line} {times}")).collect();
-        eprintln!("answers: {}", answers.join(", "));
-        eprintln!("claims by line of dtb/mod.rs: {}", lines.join(", "));
-        let mut groups: BTreeMap<&str, Vec<String>> = BTreeMap::new();
-        for (name, Times { all, done }) in &self.choices {
-            let (group, choice) = name.split_once(": ").expect("a group and a choice");
-            groups.entry(group).or_default().push(format!("{choice} {all}/{done}"));
-        }
-        for (group, choices) in groups {
-            eprintln!("{group}: {}", choices.join(", "));
-        }
-    }
+fn print(tally: &Tally, lines: &BTreeMap<u32, u64>) {
+    let lines: Vec<String> = lines.iter().map(|(line, times)| format!("{line} {times}")).collect();
+    tally.print_answers();
+    eprintln!("claims by line of dtb/mod.rs: {}", lines.join(", "));
+    tally.print_choices();
 }
 
 /// A case, and what the Rust did with it, as the bytes of the stream.
@@ -105,23 +73,21 @@ fn write(out: &mut impl Write, case: &TreeCase) -> io::Result<TreeCall> {
 }
 
 /// Writes the cases of a seed: the edges, and then random ones. How often each choice was made goes to standard error.
-pub fn generate(seed: u64, count: usize) -> io::Result<()> {
+pub fn generate(seed: u64, cases: usize) -> io::Result<()> {
     let mut out = BufWriter::with_capacity(1 << 16, io::stdout().lock());
-    let mut tally = Tally::default();
+    let (mut tally, mut lines) = (Tally::default(), BTreeMap::new());
     let edges = edges();
-    for case in edges.iter().take(count) {
-        tally.answer(&write(&mut out, case)?);
+    for case in edges.iter().take(cases) {
+        count(&mut tally, &mut lines, &write(&mut out, case)?);
     }
     let mut maker = Maker::new(seed);
-    for _ in edges.len()..count {
+    for _ in edges.len()..cases {
         let case = maker.random();
         let call = write(&mut out, &case)?;
-        tally.answer(&call);
+        count(&mut tally, &mut lines, &call);
         tally.choices(&maker.chosen, call.answer == rust::DONE);
     }
-    for name in &maker.offered {
-        tally.choices.entry(name).or_default();
-    }
-    tally.print();
+    tally.offered(&maker.offered);
+    print(&tally, &lines);
     out.flush()
 }

@@ -1,6 +1,8 @@
 //! The unchanged Rust of the boot memory map as an oracle. `oracle gen SEED COUNT` writes COUNT cases with the
-//! Rust's answers to standard output, `oracle claims SEED COUNT` the same of trees; README.md has their layouts.
-//! `oracle bench`, where it is built with that feature, times our crates against the Rust.
+//! Rust's answers to standard output, `oracle claims SEED COUNT` the same of trees, and `oracle orders SEED COUNT` of
+//! whole order files; README.md has their layouts. `oracle orders-through PROGRAM SEED COUNT` runs a program on each
+//! order file, and compares what it prints. `oracle bench`, where it is built with that feature, times our crates
+//! against the Rust.
 #![feature(sync_unsafe_cell, int_roundings)]
 
 /// The Rust's log lines are type checked and not written.
@@ -22,19 +24,32 @@ macro_rules! cfg {
 
 #[cfg(feature = "bench")]
 mod bench;
+#[cfg(feature = "bench")]
+mod bench_whole;
 mod blob;
 mod cases;
 mod choices;
 mod claims;
 mod judge;
+mod order_cases;
+mod order_edges;
+mod order_ends;
+mod order_file;
+mod order_layout;
+mod order_lists;
+mod orders;
+mod page_sets;
 mod rng;
 mod rust;
 #[allow(dead_code)]
 mod stubs;
+mod tally;
+mod through;
 mod tree_cases;
 mod tree_edges;
 mod trees;
 mod values;
+mod whole;
 
 use cases::Case;
 use std::io::{self, BufWriter, Write};
@@ -90,15 +105,27 @@ fn generate(seed: u64, count: usize) -> io::Result<()> {
 fn main() -> io::Result<()> {
     rust::listen();
     let args: Vec<String> = std::env::args().skip(1).collect();
-    let number = |i: usize| args.get(i).and_then(|text| text.parse::<u64>().ok());
-    match (args.first().map(String::as_str), number(1), number(2)) {
-        (Some("gen"), Some(seed), Some(count)) => generate(seed, count as usize),
-        (Some("claims"), Some(seed), Some(count)) => claims::generate(seed, count as usize),
-        #[cfg(feature = "bench")]
-        (Some("bench"), None, None) => Ok(bench::run()),
-        _ => {
-            eprintln!("oracle gen SEED COUNT\noracle claims SEED COUNT");
-            std::process::exit(2);
+    let args: Vec<&str> = args.iter().map(String::as_str).collect();
+    let number = |text: &str| text.parse::<u64>().unwrap_or_else(|_| usage());
+    match args[..] {
+        ["gen", seed, count] => generate(number(seed), number(count) as usize),
+        ["claims", seed, count] => claims::generate(number(seed), number(count) as usize),
+        ["orders", seed, count] => orders::generate(number(seed), number(count) as usize),
+        ["orders-names"] => orders::names(),
+        ["orders-through", program, seed, count] => {
+            let same = through::run(program, number(seed), number(count) as usize)?;
+            std::process::exit(i32::from(!same))
         }
+        #[cfg(feature = "bench")]
+        ["bench"] => Ok(bench::run()),
+        _ => usage(),
     }
+}
+
+fn usage() -> ! {
+    eprintln!(
+        "oracle gen SEED COUNT\noracle claims SEED COUNT\noracle orders SEED COUNT\noracle orders-names\n\
+         oracle orders-through PROGRAM SEED COUNT"
+    );
+    std::process::exit(2);
 }

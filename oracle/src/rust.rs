@@ -23,11 +23,11 @@ pub type Claim = [u64; 3];
 pub type Entry = [u64; 3];
 
 /// A list of no bytes still has a place.
-const NO_LIST: u64 = 8;
+pub const NO_LIST: u64 = 8;
 
 /// Where a call of the Rust stopped.
 #[derive(Debug, PartialEq)]
-enum Stop {
+pub enum Stop {
     MapFull,
     NoSlot,
     /// `init` asked for a mapper: the areas stand.
@@ -168,15 +168,24 @@ pub fn whole_words(tree: &[u8]) -> Vec<u32> {
         .collect()
 }
 
-/// The kernel's sources with this tree and nothing else in them: where they stopped, and the claims up to there.
-fn hear_tree(tree: &[u8], registering: bool) -> (Option<Stop>, Vec<Heard>) {
-    let words = whole_words(tree);
-    // The Rust wants it for good, and is done with it when the call is.
-    let lent = unsafe { std::slice::from_raw_parts(words.as_ptr(), words.len()) };
-    let args = KernelArgs { areas_base: NO_LIST, tree: lent, ..KernelArgs::default() };
+/// Has a call of the Rust make the claims of a tree: where it stopped, and the claims up to there.
+pub fn hearing(arm: bool, registering: bool, call: impl FnOnce() -> Option<Stop>) -> (Option<Stop>, Vec<Heard>) {
+    ARM.store(arm, Relaxed);
     REGISTERING.store(registering, Relaxed);
-    let stop = called_with(tree, || register_sources(&args));
+    let stop = call();
     (stop, std::mem::take(&mut *HEARD.lock().unwrap()))
+}
+
+/// Words that the Rust wants for good, and is done with when the call is.
+pub fn lent(words: &[u32]) -> &'static [u32] {
+    unsafe { std::slice::from_raw_parts(words.as_ptr(), words.len()) }
+}
+
+/// The kernel's sources with this tree and nothing else in them.
+fn hear_tree(tree: &[u8], arm: bool, registering: bool) -> (Option<Stop>, Vec<Heard>) {
+    let words = whole_words(tree);
+    let args = KernelArgs { areas_base: NO_LIST, tree: lent(&words), ..KernelArgs::default() };
+    hearing(arm, registering, || called_with(tree, || register_sources(&args)))
 }
 
 pub struct TreeCall {
@@ -185,27 +194,31 @@ pub struct TreeCall {
     pub heard: Vec<Heard>,
 }
 
-/// A tree's claims on the map as it stands. A refused tree leaves the map as it was.
-pub fn register_tree(tree: &[u8], arm: bool) -> TreeCall {
-    let refused = |answer: u64| TreeCall { answer, heard: Vec::new() };
-    if !tree.is_empty()
-        && let Err(answer) = judge(tree)
-    {
-        return refused(answer);
+/// The claims of a tree, heard with none of them registered, or the number by which the tree itself is refused. In
+/// the Rust a full map can come before an unreadable property. In document 01 it cannot.
+pub fn tree_claims(tree: &[u8], arm: bool) -> Result<Vec<Heard>, u64> {
+    if !tree.is_empty() {
+        judge(tree)?;
     }
     let before = held();
-    ARM.store(arm, Relaxed);
-    // In the Rust a full map can come before an unreadable property. In document 01 it cannot, so the claims are first
-    // heard with none of them registered.
-    let (stop, all) = hear_tree(tree, false);
+    let (stop, all) = hear_tree(tree, arm, false);
     assert_eq!(held(), before, "a claim was registered that was only to be heard");
     match stop {
-        None => {}
-        Some(Stop::UnreadableReg) => return refused(UNREADABLE_REG),
-        Some(Stop::UnreadableRanges) => return refused(UNREADABLE_RANGES),
+        None => Ok(all),
+        Some(Stop::UnreadableReg) => Err(UNREADABLE_REG),
+        Some(Stop::UnreadableRanges) => Err(UNREADABLE_RANGES),
         stop => unreachable!("{stop:?}"),
     }
-    let (stop, heard) = hear_tree(tree, true);
+}
+
+/// A tree's claims on the map as it stands. A refused tree leaves the map as it was.
+pub fn register_tree(tree: &[u8], arm: bool) -> TreeCall {
+    let all = match tree_claims(tree, arm) {
+        Ok(all) => all,
+        Err(answer) => return TreeCall { answer, heard: Vec::new() },
+    };
+    let before = held();
+    let (stop, heard) = hear_tree(tree, arm, true);
     assert!(all.starts_with(&heard), "the claims differ from one call to the next");
     let after = held();
     hold(&before);
@@ -229,13 +242,21 @@ pub fn register_tree(tree: &[u8], arm: bool) -> TreeCall {
 #[cfg(feature = "bench")]
 pub fn time_tree(words: &'static [u32]) -> Duration {
     let args = KernelArgs { areas_base: NO_LIST, tree: words, ..KernelArgs::default() };
+    unheard(|| {
+        let start = Instant::now();
+        register_sources(&args);
+        start.elapsed()
+    })
+}
+
+/// A call of the Rust, built for no ARM, with nobody listening to the claims of a tree.
+#[cfg(feature = "bench")]
+pub fn unheard<A>(call: impl FnOnce() -> A) -> A {
     ARM.store(false, Relaxed);
     LISTENING.store(false, Relaxed);
-    let start = Instant::now();
-    register_sources(&args);
-    let took = start.elapsed();
+    let answer = call();
     LISTENING.store(true, Relaxed);
-    took
+    answer
 }
 
 /// Number `i` of a lent slice before the build.
@@ -244,15 +265,18 @@ fn untouched(i: usize) -> u64 {
 }
 
 /// The Rust's `init` on the map as it stands, into these areas.
-fn init_into(areas: &mut [MemoryArea], low: Option<u64>, high: Option<u64>) -> Option<Stop> {
+pub fn init_into(areas: &mut [MemoryArea], args: &KernelArgs, low: Option<u64>, high: Option<u64>) -> Option<Stop> {
     AREAS.lend(areas);
-    // No source of the kernel's own: every pair is empty.
-    let args = KernelArgs { areas_base: NO_LIST, ..KernelArgs::default() };
-    let stop = called(|| {
-        unsafe { init(&args, low.map(|x| x as usize), high.map(|x| x as usize)) };
+    let stop = called_with(args.tree_bytes(), || {
+        unsafe { init(args, low.map(|x| x as usize), high.map(|x| x as usize)) };
     });
     AREAS.lend(&mut []);
     stop
+}
+
+/// No source of the kernel's own: every pair is empty.
+fn no_sources() -> KernelArgs {
+    KernelArgs { areas_base: NO_LIST, ..KernelArgs::default() }
 }
 
 pub struct Build {
@@ -269,7 +293,7 @@ pub fn build(low: Option<u64>, high: Option<u64>, len: usize) -> Build {
         .chunks_exact(2)
         .map(|pair| MemoryArea { base: PhysicalAddress::new(pair[0] as usize), size: pair[1] as usize })
         .collect();
-    let stop = init_into(&mut areas, low, high);
+    let stop = init_into(&mut areas, &no_sources(), low, high);
     assert_eq!(held(), before, "a build changed the map");
     match stop {
         Some(Stop::Mapper) => {
@@ -289,9 +313,9 @@ pub fn build(low: Option<u64>, high: Option<u64>, len: usize) -> Build {
 #[cfg(feature = "bench")]
 static ASKED: Mutex<Option<Instant>> = Mutex::new(None);
 
-/// How long a build takes until `init` asks for a mapper, and how many areas stand then.
+/// How long a build from these sources takes until `init` asks for a mapper, and how many areas stand then.
 #[cfg(feature = "bench")]
-pub fn time_build(slots: usize) -> (Duration, usize) {
+pub fn time_init(args: &KernelArgs, slots: usize) -> (Duration, usize) {
     unsafe {
         rmm::ASKED = || {
             let now = Instant::now();
@@ -300,7 +324,13 @@ pub fn time_build(slots: usize) -> (Duration, usize) {
     }
     let mut areas = vec![MemoryArea { base: PhysicalAddress::new(0), size: 0 }; slots];
     let start = Instant::now();
-    assert_eq!(init_into(&mut areas, None, None), Some(Stop::Mapper));
+    assert_eq!(init_into(&mut areas, args, None, None), Some(Stop::Mapper));
     let end = ASKED.lock().unwrap().take().expect("a time");
     (end - start, unsafe { AREA_COUNT.get().read() }.into())
+}
+
+/// The same of the map as it stands, with no further source.
+#[cfg(feature = "bench")]
+pub fn time_build(slots: usize) -> (Duration, usize) {
+    time_init(&no_sources(), slots)
 }

@@ -117,8 +117,11 @@ pub mod startup {
             if self.tree.is_empty() {
                 return Err(fdt::FdtError::BadPtr);
             }
-            let bytes = unsafe { core::slice::from_raw_parts(self.tree.as_ptr().cast(), size_of_val(self.tree)) };
-            fdt::Fdt::new(self.tree).map(|tree| (tree, bytes))
+            fdt::Fdt::new(self.tree).map(|tree| (tree, self.tree_bytes()))
+        }
+
+        pub fn tree_bytes(&self) -> &'static [u8] {
+            unsafe { core::slice::from_raw_parts(self.tree.as_ptr().cast(), size_of_val(self.tree)) }
         }
     }
 }

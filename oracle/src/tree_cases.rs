@@ -1,11 +1,9 @@
 //! Random cases of trees: whole ones, damaged ones, and the map that they come to.
 use crate::blob::{self, Blocks, HEADER, Order};
-use crate::cases::{FREE, KINDS, PAGE, RESERVED};
+use crate::cases::{DEVICE, FREE, KINDS, PAGE, RESERVED};
 use crate::choices::Maker;
 use crate::rust::{self, Claim, register_tree};
 use crate::startup::original::{held, hold};
-
-const DEVICE: u64 = 0x101;
 
 pub struct TreeCase {
     /// Registered on the empty map before the tree: the Rust accepts each.
@@ -30,7 +28,7 @@ impl Maker {
     }
 
     /// A tree. What was chosen for one that is then damaged says little of it, and is forgotten.
-    fn blob(&mut self) -> Vec<u8> {
+    pub fn blob(&mut self) -> Vec<u8> {
         let (name, make) = self.draw::<fn(&mut Self) -> Vec<u8>>(&[
             (60, "tree: sound", Self::sound),
             (8, "tree: its structure damaged", Self::with_damaged_structure),
@@ -184,7 +182,7 @@ impl Maker {
     }
 
     /// A registration that meets a claim, or comes near one.
-    fn beside(&mut self, claims: &[Claim]) -> Claim {
+    pub fn beside(&mut self, claims: &[Claim]) -> Claim {
         let [base, size, kind] = self.rng.pick(claims);
         let end = base.saturating_add(size);
         let midst = base.wrapping_add(size / 2);

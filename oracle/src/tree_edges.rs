@@ -4,21 +4,21 @@ use crate::cases::{FREE, PAGE, T};
 use crate::tree_cases::{TreeCase, far_page};
 
 /// Numbers of one cell each.
-fn cells(numbers: &[u32]) -> Vec<u8> {
+pub fn cells(numbers: &[u32]) -> Vec<u8> {
     numbers.iter().flat_map(|number| number.to_be_bytes()).collect()
 }
 
 /// Numbers of two cells each.
-fn pairs(numbers: &[u64]) -> Vec<u8> {
+pub fn pairs(numbers: &[u64]) -> Vec<u8> {
     numbers.iter().flat_map(|number| number.to_be_bytes()).collect()
 }
 
 /// A node that states so many cells for addresses and for sizes.
-fn node(name: &str, count: u32) -> Node {
+pub fn node(name: &str, count: u32) -> Node {
     Node::new(name).with("#address-cells", cells(&[count])).with("#size-cells", cells(&[count]))
 }
 
-fn case(reservations: &[[u64; 2]], root: Node) -> TreeCase {
+pub fn case(reservations: &[[u64; 2]], root: Node) -> TreeCase {
     let tree = Blocks::plain(reservations, &root).lay_out(Order::Usual);
     TreeCase { before: Vec::new(), arm: false, tree }
 }
@@ -34,7 +34,7 @@ fn windowed(bus: &str, range: [u64; 3], address: u64, size: u64) -> Node {
 }
 
 /// The same range through the soc window, through translation, and through both at one device.
-fn both_rules(range: [u64; 3], address: u64, size: u64) -> [TreeCase; 3] {
+pub fn both_rules(range: [u64; 3], address: u64, size: u64) -> [TreeCase; 3] {
     let soc = windowed("soc", range, address, size);
     let bus = windowed("bus", range, address, size);
     [
@@ -52,21 +52,21 @@ fn over_the_top() -> TreeCase {
 }
 
 /// A root with /reserved-memory, which has these children.
-fn reserving(children: impl IntoIterator<Item = Node>) -> Node {
+pub fn reserving(children: impl IntoIterator<Item = Node>) -> Node {
     node("", 1).holding([node("reserved-memory", 1).with("ranges", []).holding(children)])
 }
 
-fn pool(reg: &[u32]) -> Node {
+pub fn pool(reg: &[u32]) -> Node {
     Node::new("pool").with("reg", cells(reg))
 }
 
 /// A /soc with a `ranges` that cannot be read, and a device with one entry.
-fn unreadable_soc() -> Node {
+pub fn unreadable_soc() -> Node {
     node("soc", 1).with("ranges", cells(&[0])).holding([Node::new("device").with("reg", cells(&[0x1000, 8]))])
 }
 
 /// Nodes within one another, so that there are so many levels.
-fn nested(levels: usize) -> Node {
+pub fn nested(levels: usize) -> Node {
     let mut node = Node::new("a");
     for _ in 2..levels {
         node = Node::new("a").holding([node]);
@@ -75,14 +75,14 @@ fn nested(levels: usize) -> Node {
 }
 
 /// "The name ended" and the level are faults of one token: 5 comes before 6.
-fn endless_name_too_deep() -> TreeCase {
+pub fn endless_name_too_deep() -> TreeCase {
     let mut blocks = Blocks::plain(&[], &nested(33));
     blocks.structure.truncate(8 * 32 + 5);
     TreeCase { before: Vec::new(), arm: false, tree: blocks.lay_out(Order::Usual) }
 }
 
 /// One child for each way to write `status`, in pages that do not touch.
-fn statuses() -> TreeCase {
+pub fn statuses() -> TreeCase {
     let values: [&[u8]; 6] = [b"okay\0", b"ok\0", b"disabled\0", b"okay", b"okay\0\0", b""];
     let child = |(i, value): (usize, &&[u8])| pool(&[0x2000 * i as u32, 1]).with("status", *value);
     case(&[], reserving(values.iter().enumerate().map(child)))
