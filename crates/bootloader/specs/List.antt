@@ -2,7 +2,8 @@
 use mathlib.Core.Bool.{Bool, true, false, cond, _&&_}
 use mathlib.Core.List.{List, [], _∷_}
 use Prim.Native.Nat.{ℕ, zero, suc, _+_, _*_, _/_}
-use lib.ListN.{getD, length}
+use lib.ListN.{length}
+use Rattle.words.specs.Little.{eight}
 use Rattle.entry.specs.declared.KindRead.{KindRead}
 use Rattle.entry.specs.declared.KindRead.the-variants.{Known, Unknown}
 use Rattle.entry.specs.Kind.{kindOf}
@@ -13,21 +14,9 @@ use Rattle.memory.specs.declared.Registered.{Registered}
 use Rattle.memory.specs.Map.{answered}
 use Rattle.memory.specs.Run.{registeredAll, settled}
 
--- "little-endian": the number in the 8 bytes at place i
-unfoldable pub word : List ℕ → ℕ → ℕ
-word l i =
-    getD l i 0
-    + 256 * (getD l (i + 1) 0
-    + 256 * (getD l (i + 2) 0
-    + 256 * (getD l (i + 3) 0
-    + 256 * (getD l (i + 4) 0
-    + 256 * (getD l (i + 5) 0
-    + 256 * (getD l (i + 6) 0
-    + 256 * getD l (i + 7) 0))))))
-
 -- "24 bytes an entry, little-endian base, size, kind": entry i
 abbrev pub claimAt : List ℕ → ℕ → Claim
-claimAt l i = claim (word l (i * 24)) (word l (i * 24 + 8)) (word l (i * 24 + 16))
+claimAt l i = claim (eight l (i * 24)) (eight l (i * 24 + 8)) (eight l (i * 24 + 16))
 
 -- n entries of the list, from entry i on
 unfoldable pub claimsAt : List ℕ → ℕ → ℕ → List Claim

@@ -1,33 +1,14 @@
 // The bootloader's list: 24 bytes an entry, registered whole or not at all.
 ghost use mathlib.Core.Path.{_≡_};
-ghost use Prim.Native.Nat.{_≤_, _<_, _+_};
-ghost use lib.ListN.{length};
 ghost use Rattle.memory.specs.Map.{mapOf, left};
 ghost use Rattle.memory.specs.Made.{Made};
 ghost use Rattle.memory.specs.Run.{registeredAll};
-ghost use Rattle.bootloader.specs.List.{word, allKnown, claims, listed};
+ghost use Rattle.bootloader.specs.List.{allKnown, claims, listed};
 use entry::KindRead;
 use memory::Admitted;
 use memory::Answer;
 use memory::MemoryMap;
 use memory::Registered;
-
-fn wide(x: u8) -> u64
-    ensures { λ r. ⌜ (r ≡ x) × (r < 256) ⌝ }
-{
-    x as u64
-}
-
-// The number in the 8 bytes at a place, the lowest byte first.
-fn word_at(list: &[u8], at: usize) -> u64
-    requires { ⌜ at + 8 ≤ length (now list) ⌝ }
-    ensures { λ r. ⌜ r ≡ word (now (list .entry)) at ⌝ }
-{
-    let a = wide(list[at + 7]) * 256 + wide(list[at + 6]);
-    let b = (a * 256 + wide(list[at + 5])) * 256 + wide(list[at + 4]);
-    let c = (b * 256 + wide(list[at + 3])) * 256 + wide(list[at + 2]);
-    (c * 256 + wide(list[at + 1])) * 256 + wide(list[at])
-}
 
 // Whether every entry of a list has one of the seven kinds.
 fn all_known(list: &[u8]) -> bool
@@ -36,7 +17,7 @@ fn all_known(list: &[u8]) -> bool
     let n = list.len() / 24;
     let mut i: usize = 0;
     while i < n {
-        let KindRead::Known(_) = entry::kind_of(word_at(list, i * 24 + 16)) else {
+        let KindRead::Known(_) = entry::kind_of(words::le64(list, i * 24 + 16)) else {
             return false;
         };
         i += 1;
@@ -61,9 +42,9 @@ fn register_list_in(
     let mut i: usize = 0;
     while i < n {
         let at = i * 24;
-        let base = word_at(list, at);
-        let len = word_at(list, at + 8);
-        let kind = word_at(list, at + 16);
+        let base = words::le64(list, at);
+        let len = words::le64(list, at + 8);
+        let kind = words::le64(list, at + 16);
         let r = memory::register_in(starts, ends, kinds, held, base, len, kind);
         let answer = r.answer;
         let Answer::Done = answer else {

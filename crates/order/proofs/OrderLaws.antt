@@ -9,10 +9,10 @@ use mathlib.Core.Bool.{Bool, true, false, not, _&&_, _||_}
 use lib.ListN.{length, getD}
 use lib.Dec.{leb, eqb, ltb}
 use borrow.Author.Tests.{eq-eqb, le-leb, lt-ltb, leb-true, eqb-true, ltb-true, not-true, not-false}
-use Rattle.bootloader.specs.List.{word}
 use Rattle.words.specs.Bytes.{partOf}
+use Rattle.words.specs.Little.{half, quarter, eight}
 use Rattle.words.proofs.BytesLaws.{never, part-length}
-use Rattle.order.specs.Layout.{half, quarter, flags, lowFlag, highFlag, listCount, treeLength, GoodOrder, goodOrder, orderIn, orderOf}
+use Rattle.order.specs.Layout.{flags, lowFlag, highFlag, listCount, treeLength, GoodOrder, goodOrder, orderIn, orderOf}
 use Rattle.order.specs.declared.OrderRead.the-variants.{Layout, BadOrder}
 
 both : (x y : Bool) → (x && y) ≡ true → (x ≡ true) × (y ≡ true)
@@ -50,8 +50,8 @@ module _ (s : List ℕ) where
       let e = both (eqb (getD s 2 0) 79) _ (d .1) in
       let f = both (eqb (half s 3) 1) _ (e .1) in
       let g = both (ltb (flags s) 8) _ (f .1) in
-      let i = both (lowFlag s || eqb (word s 8) 0) _ (g .1) in
-      let j = both (highFlag s || eqb (word s 16) 0) _ (i .1) in
+      let i = both (lowFlag s || eqb (eight s 8) 0) _ (g .1) in
+      let j = both (highFlag s || eqb (eight s 16) 0) _ (i .1) in
       let k = both (eqb (quarter s 108) 0) _ (j .1) in
       record {
         most = leb-true _ _ (a .0);
@@ -69,7 +69,7 @@ module _ (s : List ℕ) where
 
   -- where all else is good, the length decides
   pub length-decides : length s ≤ 65536 → 112 ≤ length s → getD s 0 0 ≡ 71 → getD s 1 0 ≡ 66 → getD s 2 0 ≡ 79 → half s 3 ≡ 1 → flags s < 8
-      → (lowFlag s || eqb (word s 8) 0) ≡ true → (highFlag s || eqb (word s 16) 0) ≡ true → quarter s 108 ≡ 0
+      → (lowFlag s || eqb (eight s 8) 0) ≡ true → (highFlag s || eqb (eight s 16) 0) ≡ true → quarter s 108 ≡ 0
       → eqb (length s) (112 + listCount s * 24 + treeLength s) ≡ goodOrder s
   unfolding goodOrder
   length-decides a b c d e f g h i j =

@@ -5,20 +5,13 @@ use mathlib.Core.List.{List}
 use mathlib.Core.Bool.{Bool, false, cond, _&&_, _||_}
 use lib.ListN.{length, getD}
 use lib.Dec.{eqb, leb, ltb}
-use Rattle.bootloader.specs.List.{word}
+use Rattle.words.specs.Little.{half, quarter, eight}
 use Rattle.cells.specs.declared.Region.{Region}
 use Rattle.areas.specs.declared.Limit.{Limit}
 use Rattle.areas.specs.declared.Limit.the-variants.{At, Missing}
 use Rattle.order.specs.declared.Order.{Order}
 use Rattle.order.specs.declared.OrderRead.{OrderRead}
 use Rattle.order.specs.declared.OrderRead.the-variants.{Layout, BadOrder}
-
--- the numbers in 2 and 4 bytes at a place, the lowest byte first; in 8: bootloader's word
-unfoldable pub half : List ℕ → ℕ → ℕ
-half s at = getD s at 0 + 256 * getD s (at + 1) 0
-
-unfoldable pub quarter : List ℕ → ℕ → ℕ
-quarter s at = half s at + 65536 * half s (at + 2)
 
 -- ── The fields ──
 abbrev pub flags : List ℕ → ℕ
@@ -55,8 +48,8 @@ pub record GoodOrder (s : List ℕ) : Type 0 where
   -- "others 0"
   pub flagged : flags s < 8
   -- "8 low; 16 high (each 0 if not flagged)"
-  pub low : lowFlag s ≡ false → word s 8 ≡ 0
-  pub high : highFlag s ≡ false → word s 16 ≡ 0
+  pub low : lowFlag s ≡ false → eight s 8 ≡ 0
+  pub high : highFlag s ≡ false → eight s 16 ≡ 0
   -- "108 four zeros"
   pub zeros : quarter s 108 ≡ 0
   -- "112 list, tree, end"
@@ -72,8 +65,8 @@ goodOrder s =
     && (eqb (getD s 2 0) 79
     && (eqb (half s 3) 1
     && (ltb (flags s) 8
-    && ((lowFlag s || eqb (word s 8) 0)
-    && ((highFlag s || eqb (word s 16) 0)
+    && ((lowFlag s || eqb (eight s 8) 0)
+    && ((highFlag s || eqb (eight s 16) 0)
     && (eqb (quarter s 108) 0
     && eqb (length s) (112 + listCount s * 24 + treeLength s))))))))))
 
@@ -83,14 +76,14 @@ limitBy flagged x = cond flagged (At x) Missing
 
 -- "24 five pairs base, size: kernel, env, hwdesc, bootstrap, stack"
 abbrev pub pairAt : List ℕ → ℕ → Region
-pairAt s i = record { address = word s (24 + i * 16); size = word s (32 + i * 16) }
+pairAt s i = record { address = eight s (24 + i * 16); size = eight s (32 + i * 16) }
 
 unfoldable pub orderIn : List ℕ → Order
 orderIn s =
     record {
       arm = armFlag s;
-      low = limitBy (lowFlag s) (word s 8);
-      high = limitBy (highFlag s) (word s 16);
+      low = limitBy (lowFlag s) (eight s 8);
+      high = limitBy (highFlag s) (eight s 16);
       kernel = pairAt s 0;
       env = pairAt s 1;
       hwdesc = pairAt s 2;

@@ -1,11 +1,11 @@
 // The order file's layout.
 ghost use mathlib.Core.Path.{_≡_};
-ghost use Prim.Native.Nat.{_+_, _≤_, _<_};
+ghost use Prim.Native.Nat.{_≤_, _<_};
 ghost use lib.ListN.{length};
 ghost use lib.Dec.{eqb};
 ghost use mathlib.Core.Bool.{_||_};
-ghost use Rattle.bootloader.specs.List.{word};
-ghost use Rattle.order.specs.Layout.{half, quarter, limitBy, pairAt, goodOrder, orderIn, orderOf};
+ghost use Rattle.words.specs.Little.{eight};
+ghost use Rattle.order.specs.Layout.{limitBy, pairAt, goodOrder, orderIn, orderOf};
 use areas::Limit;
 use cells::Region;
 use fdt::Block;
@@ -30,48 +30,14 @@ pub enum OrderRead {
     BadOrder,
 }
 
-// The number in the two bytes at a place, the lowest byte first.
-fn half_at(s: &[u8], at: usize) -> usize
-    requires { ⌜ at + 2 ≤ length (now s) ⌝ }
-    ensures { λ r. ⌜ (r ≡ half (now (s .entry)) at) × (r < 65536) ⌝ }
-{
-    s[at] as usize + s[at + 1] as usize * 256
-}
-
-// The number in the four bytes at a place, the lowest byte first.
-fn quarter_at(s: &[u8], at: usize) -> usize
-    requires { ⌜ at + 4 ≤ length (now s) ⌝ }
-    ensures { λ r. ⌜ (r ≡ quarter (now (s .entry)) at) × (r < 4294967296) ⌝ }
-{
-    half_at(s, at) + half_at(s, at + 2) * 65536
-}
-
-fn wide(x: u8) -> u64
-    ensures { λ r. ⌜ (r ≡ x) × (r < 256) ⌝ }
-{
-    x as u64
-}
-
-// The number in the eight bytes at a place, the lowest byte first. The bootloader's list reads its numbers so too, but keeps that to itself.
-fn word_at(s: &[u8], at: usize) -> u64
-    requires { ⌜ at + 8 ≤ length (now s) ⌝ }
-    ensures { λ r. ⌜ r ≡ word (now (s .entry)) at ⌝ }
-{
-    let a = wide(s[at + 7]) * 256 + wide(s[at + 6]);
-    let b = (a * 256 + wide(s[at + 5])) * 256 + wide(s[at + 4]);
-    let c = (b * 256 + wide(s[at + 3])) * 256 + wide(s[at + 2]);
-    (c * 256 + wide(s[at + 1])) * 256 + wide(s[at])
-}
-
 // Whether the limit at a place is flagged, or else 0.
 fn limit_good(s: &[u8], flagged: bool, at: usize) -> bool
-    requires { ⌜ at + 8 ≤ length (now s) ⌝ }
-    ensures { λ r. ⌜ r ≡ (flagged || eqb (word (now (s .entry)) at) 0) ⌝ }
+    ensures { λ r. ⌜ r ≡ (flagged || eqb (eight (now (s .entry)) at) 0) ⌝ }
 {
     if flagged {
         return true;
     }
-    word_at(s, at) == 0
+    words::le64(s, at) == 0
 }
 
 // Whether the bytes keep the layout.
@@ -93,7 +59,7 @@ fn good_order(s: &[u8]) -> bool
     if s[2] != b'O' {
         return false;
     }
-    if half_at(s, 3) != 1 {
+    if words::le16(s, 3) != 1 {
         return false;
     }
     let flags = s[5];
@@ -106,31 +72,30 @@ fn good_order(s: &[u8]) -> bool
     if !limit_good(s, flags / 4 % 2 == 1, 16) {
         return false;
     }
-    if quarter_at(s, 108) != 0 {
+    if words::le32(s, 108) != 0 {
         return false;
     }
-    s.len() == 112 + half_at(s, 6) * 24 + quarter_at(s, 104)
+    s.len() == 112 + words::le16(s, 6) * 24 + words::le32(s, 104)
 }
 
 // The limit at a place, missing where it is not flagged.
 fn limit_by(s: &[u8], flagged: bool, at: usize) -> Limit
-    requires { ⌜ at + 8 ≤ length (now s) ⌝ }
-    ensures { λ r. ⌜ r ≡ limitBy flagged (word (now (s .entry)) at) ⌝ }
+    ensures { λ r. ⌜ r ≡ limitBy flagged (eight (now (s .entry)) at) ⌝ }
 {
     if flagged {
-        return Limit::At(word_at(s, at));
+        return Limit::At(words::le64(s, at));
     }
     Limit::Missing
 }
 
 // One of the five pairs.
 fn pair_at(s: &[u8], i: usize) -> Region
-    requires { ⌜ (i < 5) × (112 ≤ length (now s)) ⌝ }
+    requires { ⌜ i < 5 ⌝ }
     ensures { λ r. ⌜ r ≡ pairAt (now (s .entry)) i ⌝ }
 {
     Region {
-        address: word_at(s, 24 + i * 16),
-        size: word_at(s, 32 + i * 16),
+        address: words::le64(s, 24 + i * 16),
+        size: words::le64(s, 32 + i * 16),
     }
 }
 
@@ -140,7 +105,7 @@ fn order_in(s: &[u8]) -> Order
     ensures { λ r. ⌜ r ≡ orderIn (now (s .entry)) ⌝ }
 {
     let flags = s[5];
-    let list = half_at(s, 6) * 24;
+    let list = words::le16(s, 6) * 24;
     Order {
         arm: flags % 2 == 1,
         low: limit_by(s, flags / 2 % 2 == 1, 8),
@@ -153,7 +118,7 @@ fn order_in(s: &[u8]) -> Order
         list: Block { at: 112, len: list },
         tree: Block {
             at: 112 + list,
-            len: quarter_at(s, 104),
+            len: words::le32(s, 104),
         },
     }
 }

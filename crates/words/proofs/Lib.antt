@@ -1,1 +1,2 @@
 pub mod BytesLaws
+pub mod LittleLaws

@@ -23,14 +23,14 @@ loop-holds c =
     let e : n - 0 ≡ n = omega arith in
     (omega arith, omega arith, rw e)
 
-mul-word-at : tie.Need-mul-word-at Inv-loop μ-loop
-mul-word-at c = search needs
+mul-le64 : tie.Need-mul-le64 Inv-loop μ-loop
+mul-le64 c = search needs
 
-add-word-at : tie.Need-add-word-at Inv-loop μ-loop
-add-word-at c = search needs
+add-le64 : tie.Need-add-le64 Inv-loop μ-loop
+add-le64 c = search needs
 
-word-at-requires : tie.Need-word-at-requires Inv-loop μ-loop
-word-at-requires c κs = search needs
+le64-requires : tie.Need-le64-requires Inv-loop μ-loop
+le64-requires c κs = search needs
 
 kind-of-requires : tie.Need-kind-of-requires Inv-loop μ-loop
 kind-of-requires c κs = search needs
@@ -44,7 +44,7 @@ enum-told-2 c = search needs
 returns : tie.Need-returns Inv-loop μ-loop
 returns c =
     let k = c .before .before in
-    let r = k .kind-of .ensures ∙ ap kindOf (k .before .word-at .ensures) in
+    let r = k .kind-of .ensures ∙ ap kindOf (k .before .le64 .ensures .is) in
     let l = k .before .before .before .loop in
     sym (known-stop _ _ _ _ (k .before .before .loop-test .taken) r (ap isKnown (c .enum-told2 .given .1))) ∙ l .inv .2
 
@@ -57,7 +57,7 @@ loop-less c = search needs
 loop-again : tie.Need-loop-again Inv-loop μ-loop
 loop-again c =
     let k = c .before .before in
-    let r = k .kind-of .ensures ∙ ap kindOf (k .before .word-at .ensures) in
+    let r = k .kind-of .ensures ∙ ap kindOf (k .before .le64 .ensures .is) in
     let l = k .before .before .before .loop in
     (omega arith, omega arith, sym (known-step _ _ _ _ (k .before .before .loop-test .taken) r (ap isKnown (c .enum-told .given .1))) ∙ l .inv .2)
 
@@ -71,9 +71,9 @@ all-known-spec =
     Inv-loop
     μ-loop
     loop-holds
-    mul-word-at
-    add-word-at
-    word-at-requires
+    mul-le64
+    add-le64
+    le64-requires
     kind-of-requires
     enum-told
     enum-told-2

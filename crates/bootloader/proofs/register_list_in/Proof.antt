@@ -37,20 +37,20 @@ loop-holds c =
 mul-at : tie.Need-mul-at Inv-loop μ-loop
 mul-at c = search needs
 
-word-at-requires : tie.Need-word-at-requires Inv-loop μ-loop
-word-at-requires c κs = search needs
+le64-requires : tie.Need-le64-requires Inv-loop μ-loop
+le64-requires c κs = search needs
 
-add-word-at : tie.Need-add-word-at Inv-loop μ-loop
-add-word-at c = search needs
+add-le64 : tie.Need-add-le64 Inv-loop μ-loop
+add-le64 c = search needs
 
-word-at-requires-2 : tie.Need-word-at-requires-2 Inv-loop μ-loop
-word-at-requires-2 c κs = search needs
+le64-requires-2 : tie.Need-le64-requires-2 Inv-loop μ-loop
+le64-requires-2 c κs = search needs
 
-add-word-at-2 : tie.Need-add-word-at-2 Inv-loop μ-loop
-add-word-at-2 c = search needs
+add-le64-2 : tie.Need-add-le64-2 Inv-loop μ-loop
+add-le64-2 c = search needs
 
-word-at-requires-3 : tie.Need-word-at-requires-3 Inv-loop μ-loop
-word-at-requires-3 c κs = search needs
+le64-requires-3 : tie.Need-le64-requires-3 Inv-loop μ-loop
+le64-requires-3 c κs = search needs
 
 register-in-requires : tie.Need-register-in-requires Inv-loop μ-loop
 register-in-requires c κs = c .before .before .before .before .before .before .before .loop .inv .2
@@ -68,7 +68,7 @@ returns c =
     let m : MemoryMap = mapOf (l .starts) (l .ends) (l .kinds) (l .held) in
     let r : Registered = left (g .result) (g .last .0) (g .last .1 .0) (g .last .1 .1 .0) in
     let e : r ≡ registered 4096 m (claimAt t (l .i))
-    = rw (← w .before .before .word-at .ensures, ← w .before .word-at2 .ensures, ← w .word-at3 .ensures) (g .ensures) in
+    = rw (← w .before .before .le64 .ensures .is, ← w .before .le642 .ensures .is, ← w .le643 .ensures .is) (g .ensures) in
     sym (all-stop 4096 m t _ _ r (w .before .before .before .loop-test .taken) e (refused (g .result .answer) (c .match .keys2))) ∙ l .inv .3
 
 add-i : tie.Need-add-i Inv-loop μ-loop
@@ -87,7 +87,7 @@ loop-again c =
     let m : MemoryMap = mapOf (l .starts) (l .ends) (l .kinds) (l .held) in
     let r : Registered = left (g .result) (g .last .0) (g .last .1 .0) (g .last .1 .1 .0) in
     let e : r ≡ registered 4096 m (claimAt t (l .i))
-    = rw (← w .before .before .word-at .ensures, ← w .before .word-at2 .ensures, ← w .word-at3 .ensures) (g .ensures) in (
+    = rw (← w .before .before .le64 .ensures .is, ← w .before .le642 .ensures .is, ← w .le643 .ensures .is) (g .ensures) in (
       omega arith,
       omega arith,
       one-made 4096 m _ r page e (l .inv .2),
@@ -105,11 +105,11 @@ register-list-in-spec =
     μ-loop
     loop-holds
     mul-at
-    word-at-requires
-    add-word-at
-    word-at-requires-2
-    add-word-at-2
-    word-at-requires-3
+    le64-requires
+    add-le64
+    le64-requires-2
+    add-le64-2
+    le64-requires-3
     register-in-requires
     enum-told
     returns

@@ -29,8 +29,8 @@ shared-slice-read-if5 c = search needs
 returns-5 : tie.Need-returns-5
 returns-5 c = bad-order _ (λ g. c .if5 .taken (omega arith))
 
-half-at-requires : tie.Need-half-at-requires
-half-at-requires c κs = search needs
+le16-requires : tie.Need-le16-requires
+le16-requires c κs = search needs
 
 returns-6 : tie.Need-returns-6
 returns-6 c = bad-order _ (λ g. c .if6 .taken (omega arith))
@@ -53,14 +53,14 @@ limit-good-requires-2 c κs = search needs
 returns-9 : tie.Need-returns-9
 returns-9 c = bad-order _ (λ g. limit-bad _ _ (c .before .limit-good2 .ensures) (c .if9 .taken) (g .high))
 
-quarter-at-requires : tie.Need-quarter-at-requires
-quarter-at-requires c κs = search needs
+le32-requires : tie.Need-le32-requires
+le32-requires c κs = search needs
 
 returns-10 : tie.Need-returns-10
 returns-10 c = bad-order _ (λ g. c .if10 .taken (omega arith))
 
-half-at-requires-2 : tie.Need-half-at-requires-2
-half-at-requires-2 c κs = search needs
+le16-requires-2 : tie.Need-le16-requires-2
+le16-requires-2 c κs = search needs
 
 mul-result : tie.Need-mul-result
 mul-result c = search needs
@@ -68,8 +68,8 @@ mul-result c = search needs
 add-result : tie.Need-add-result
 add-result c = search needs
 
-quarter-at-requires-2 : tie.Need-quarter-at-requires-2
-quarter-at-requires-2 c κs = search needs
+le32-requires-2 : tie.Need-le32-requires-2
+le32-requires-2 c κs = search needs
 
 add-result-2 : tie.Need-add-result-2
 add-result-2 c = search needs
@@ -77,7 +77,7 @@ add-result-2 c = search needs
 returns-11 : tie.Need-returns-11
 returns-11 c =
     let d = c .before .before .before .before in
-    rw (c .before .half-at2 .ensures .0, c .quarter-at2 .ensures .0)
+    rw (c .before .le162 .ensures .is, c .le322 .ensures .is)
     (length-decides _ (omega arith) (omega arith) (omega arith) (omega arith) (omega arith) (omega arith) (omega arith)
     (limit-held (d .before .before .before .limit-good .ensures) (d .before .before .if8 .left))
     (limit-held (d .before .limit-good2 .ensures) (d .if9 .left))
@@ -95,7 +95,7 @@ good-order-spec =
     returns-4
     shared-slice-read-if5
     returns-5
-    half-at-requires
+    le16-requires
     returns-6
     shared-slice-read-flags
     returns-7
@@ -103,11 +103,11 @@ good-order-spec =
     returns-8
     limit-good-requires-2
     returns-9
-    quarter-at-requires
+    le32-requires
     returns-10
-    half-at-requires-2
+    le16-requires-2
     mul-result
     add-result
-    quarter-at-requires-2
+    le32-requires-2
     add-result-2
     returns-11)

@@ -7,8 +7,8 @@ use Rattle.order.proofs.order_in.Tie as tie
 shared-slice-read-flags : tie.Need-shared-slice-read-flags
 shared-slice-read-flags c = search needs
 
-half-at-requires : tie.Need-half-at-requires
-half-at-requires c κs = search needs
+le16-requires : tie.Need-le16-requires
+le16-requires c κs = search needs
 
 mul-list : tie.Need-mul-list
 mul-list c = search needs
@@ -37,8 +37,8 @@ pair-at-requires-5 c κs = search needs
 add-t6 : tie.Need-add-t6
 add-t6 c = search needs
 
-quarter-at-requires : tie.Need-quarter-at-requires
-quarter-at-requires c κs = search needs
+le32-requires : tie.Need-le32-requires
+le32-requires c κs = search needs
 
 returns : tie.Need-returns
 unfolding orderIn
@@ -53,8 +53,8 @@ returns c =
       c .before .before .before .pair-at3 .ensures,
       c .before .before .pair-at4 .ensures,
       c .before .pair-at5 .ensures,
-      l .before .half-at .ensures .0,
-      c .quarter-at .ensures .0,
+      l .before .le16 .ensures .is,
+      c .le32 .ensures .is,
     )
 
 pub order-in-spec : {M : Type 1} → statement M
@@ -62,7 +62,7 @@ order-in-spec =
     tie.close
     (tie.spec
     shared-slice-read-flags
-    half-at-requires
+    le16-requires
     mul-list
     limit-by-requires
     limit-by-requires-2
@@ -72,5 +72,5 @@ order-in-spec =
     pair-at-requires-4
     pair-at-requires-5
     add-t6
-    quarter-at-requires
+    le32-requires
     returns)

@@ -1,9 +1,10 @@
--- `order::word_at` reads 8 bytes, the lowest first. Assumes nothing.
+-- `words::le64_whole` meets its contract. Assumes nothing.
+use mathlib.Core.Path.{sym, _∙_}
 use native.Mathlib.Omega.{arith}
-use Rattle.bootloader.specs.List.{word}
+use Rattle.words.proofs.LittleLaws.{eight-is}
 use borrow.Author.Needs.{needs}
-use Rattle.order.proofs.word_at.Statement.{statement}
-use Rattle.order.proofs.word_at.Tie as tie
+use Rattle.words.proofs.le64_whole.Statement.{statement}
+use Rattle.words.proofs.le64_whole.Tie as tie
 
 add-wide : tie.Need-add-wide
 add-wide c = search needs
@@ -117,11 +118,10 @@ add-result-2 : tie.Need-add-result-2
 add-result-2 c = search needs
 
 returns : tie.Need-returns
-unfolding word
-returns c = omega arith
+returns c = record { is = omega arith ∙ sym (eight-is _ _); small = omega arith }
 
-pub word-at-spec : {M : Type 1} → statement M
-word-at-spec =
+pub le64-whole-spec : {M : Type 1} → statement M
+le64-whole-spec =
     tie.close
     (tie.spec
     add-wide
