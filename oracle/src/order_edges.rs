@@ -1,6 +1,6 @@
 //! The order files that a stream starts with, each with a name: case S, the edges and the numbers of document 01.
 use crate::blob::{Blocks, Node, Order};
-use crate::cases::{FREE, IDENTITY_MAP, KERNEL, PAGE, RESERVED, T};
+use crate::cases::{FREE, IDENTITY_MAP, KERNEL, NULL, PAGE, RESERVED, T};
 use crate::order_file::{LARGEST, OrderFile};
 use crate::order_layout::{BREAKS, KEEPS, grow};
 use crate::rust::Claim;
@@ -221,11 +221,47 @@ fn layouts() -> Vec<Named> {
     all
 }
 
+/// A list that fills the map if its Null takes no place there, and limits that leave the last page.
+fn null_page() -> OrderFile {
+    let (last, elsewhere) = ([2000 * PAGE, PAGE, FREE], [3000 * PAGE, PAGE, NULL]);
+    OrderFile { low: Some(last[0]), ..listed(&[&pages(511)[..], &[elsewhere, last]].concat()) }
+}
+
+/// One dynamic child for each way to write the size of a page, which has one cell, in pages that do not touch.
+fn dynamic_sizes() -> Node {
+    let values: [&[u8]; 4] = [&[0, 0, 0x10, 0], &[0, 0, 0, 0, 0, 0, 0x10, 0], &[0, 0, 0, 0x10, 0], &[0x10, 0]];
+    let child = |(i, value): (usize, &&[u8])| {
+        let place = trees::cells(&[0x2000 * i as u32, 0x1000]);
+        Node::new("pool").with("size", *value).with("alloc-ranges", place)
+    };
+    trees::reserving(values.iter().enumerate().map(child))
+}
+
+/// A device in the root, and a stdout that is an alias of this value.
+fn aliased(value: &str) -> OrderFile {
+    let device = Node::new("serial@1000").with("compatible", *b"x\0").with("reg", trees::cells(&[0x1000, 0x1000]));
+    let aliases = Node::new("aliases").with("serial0", format!("{value}\0"));
+    with_root(trees::node("", 1).holding([device, trees::console("serial0"), aliases]))
+}
+
+/// What random files hardly ever have, and the plain alias to compare with.
+fn rare() -> Vec<Said> {
+    vec![
+        ("511 Free pages, a Null page elsewhere, one more Free page: 512 held", null_page()),
+        ("a dynamic size counts in its cells, not in more or fewer bytes", with_root(dynamic_sizes())),
+        ("an alias of a path: a claim", aliased("/serial")),
+        ("an alias of a path without its first /: no claim", aliased("serial")),
+        ("an alias of a path with a colon behind it: no claim", aliased("/serial:115200n8")),
+    ]
+}
+
 pub fn edges() -> Vec<Named> {
     let bytes = |(name, order): Said| (name.into(), order.bytes());
     let mut all: Vec<Named> = [rounding(), limits(), blocks_and_status()].concat().into_iter().map(bytes).collect();
     all.extend(windows());
     all.extend([refusals(), checks(), full_maps(), sources()].concat().into_iter().map(bytes));
     all.extend(layouts());
+    // Last, so that the places of those before do not change.
+    all.extend(rare().into_iter().map(bytes));
     all
 }

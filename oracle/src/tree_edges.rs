@@ -23,7 +23,7 @@ pub fn case(reservations: &[[u64; 2]], root: Node) -> TreeCase {
     TreeCase { before: Vec::new(), arm: false, tree }
 }
 
-fn console(path: &str) -> Node {
+pub fn console(path: &str) -> Node {
     Node::new("chosen").with("stdout-path", format!("{path}\0"))
 }
 
