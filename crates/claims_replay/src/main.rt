@@ -9,6 +9,9 @@ use stream::Tally;
 use visit::Claimed;
 use visit::Step;
 
+// The bytes that are held of the stream. A case has fewer.
+const SPACE: usize = 131072;
+
 // No tree takes so many steps: it has no more bytes, and almost every step goes over some of them.
 const STEPS: u64 = 1048576;
 
@@ -25,20 +28,20 @@ struct Parts {
 
 // So many bytes, and the zeros behind them.
 fn padded(bytes: u64) -> u64 {
-    if 131072 < bytes {
+    if (SPACE as u64) < bytes {
         return bytes;
     }
     (bytes + 7) / 8 * 8
 }
 
-fn parts_of(buf: &[u8; stream::SPACE], at: usize) -> Parts {
-    let before = stream::past(at, 4);
-    let tree = stream::past_threes(before, stream::word(buf, at));
-    let bytes = stream::word(buf, stream::past(at, 2));
-    let answer = stream::forward(tree, padded(bytes));
-    let claims = stream::past(answer, 1);
-    let map = stream::past_threes(claims, stream::word(buf, stream::past(at, 3)));
-    let end = stream::past_threes(stream::past(map, 1), stream::word(buf, map));
+fn parts_of(buf: &[u8], at: usize) -> Parts {
+    let before = stream::past(buf, at, 4);
+    let tree = stream::past_threes(buf, before, stream::word(buf, at));
+    let bytes = stream::nth(buf, at, 2);
+    let answer = stream::forward(buf, tree, padded(bytes));
+    let claims = stream::past(buf, answer, 1);
+    let map = stream::past_threes(buf, claims, stream::nth(buf, at, 3));
+    let end = stream::past_threes(buf, stream::past(buf, map, 1), stream::word(buf, map));
     Parts {
         before,
         tree,
@@ -50,21 +53,21 @@ fn parts_of(buf: &[u8; stream::SPACE], at: usize) -> Parts {
 }
 
 // The place after a case.
-fn end_of(buf: &[u8; stream::SPACE], at: usize) -> usize {
+fn end_of(buf: &[u8], at: usize) -> usize {
     let p = parts_of(buf, at);
     p.end
 }
 
 // Whether a case is there as a whole, and its flag is 0 or 1.
-fn is_whole(buf: &[u8; stream::SPACE], at: usize, have: usize) -> bool {
+fn is_whole(buf: &[u8], at: usize, have: usize) -> bool {
     let p = parts_of(buf, at);
     if have < p.end {
         return false;
     }
-    if stream::SPACE <= p.end {
+    if buf.len() <= p.end {
         return false;
     }
-    stream::word(buf, stream::past(at, 1)) <= 1
+    stream::nth(buf, at, 1) <= 1
 }
 
 // The map that a case starts from.
@@ -75,24 +78,24 @@ fn start() -> MemoryMap
 }
 
 // Makes the registration at a place.
-fn register_at(buf: &[u8; stream::SPACE], at: usize, map: MemoryMap) -> Registered
+fn register_at(buf: &[u8], at: usize, map: MemoryMap) -> Registered
     requires { ⌜ Made 4096 map ⌝ }
     ensures { λ r. ⌜ Made 4096 (r .map) ⌝ }
 {
     let base = stream::word(buf, at);
-    let size = stream::word(buf, stream::past(at, 1));
-    let kind = stream::word(buf, stream::past(at, 2));
+    let size = stream::nth(buf, at, 1);
+    let kind = stream::nth(buf, at, 2);
     map.register(base, size, kind)
 }
 
 // The map that the tree's call finds: the registrations at a place, made one by one.
-fn map_before(buf: &[u8; stream::SPACE], at: usize, count: u64) -> MemoryMap
+fn map_before(buf: &[u8], at: usize, count: u64) -> MemoryMap
     ensures { λ r. ⌜ Made 4096 r ⌝ }
 {
     let mut held = start();
     let mut i: u64 = 0;
     while i < count {
-        let r = register_at(buf, stream::past_threes(at, i), held);
+        let r = register_at(buf, stream::past_threes(buf, at, i), held);
         let next = r.map;
         held = next;
         i += 1;
@@ -100,19 +103,8 @@ fn map_before(buf: &[u8; stream::SPACE], at: usize, count: u64) -> MemoryMap
     held
 }
 
-// Whether three numbers stand at a place.
-fn is_three(buf: &[u8; stream::SPACE], at: usize, a: u64, b: u64, c: u64) -> bool {
-    if stream::word(buf, at) != a {
-        return false;
-    }
-    if stream::word(buf, stream::past(at, 1)) != b {
-        return false;
-    }
-    stream::word(buf, stream::past(at, 2)) == c
-}
-
 // Whether a map holds the entries that stand at a place, in their order.
-fn same_map(buf: &[u8; stream::SPACE], at: usize, map: MemoryMap) -> bool {
+fn same_map(buf: &[u8], at: usize, map: MemoryMap) -> bool {
     let n = map.size;
     if n as u64 != stream::word(buf, at) {
         return false;
@@ -122,8 +114,8 @@ fn same_map(buf: &[u8; stream::SPACE], at: usize, map: MemoryMap) -> bool {
     }
     let mut i: usize = 0;
     while i < n {
-        let entry = stream::past_threes(stream::past(at, 1), i as u64);
-        if !is_three(buf, entry, map.starts[i], map.ends[i], map.kinds[i]) {
+        let entry = stream::past_threes(buf, stream::past(buf, at, 1), i as u64);
+        if !stream::is_three(buf, entry, map.starts[i], map.ends[i], map.kinds[i]) {
             return false;
         }
         i += 1;
@@ -132,18 +124,18 @@ fn same_map(buf: &[u8; stream::SPACE], at: usize, map: MemoryMap) -> bool {
 }
 
 // Whether a claim is that of a number at a place, where `count` of them stand.
-fn is_claim(buf: &[u8; stream::SPACE], at: usize, count: u64, number: u64, claim: Claimed) -> bool {
+fn is_claim(buf: &[u8], at: usize, count: u64, number: u64, claim: Claimed) -> bool {
     if count <= number {
         return false;
     }
-    let place = stream::past_threes(at, number);
-    is_three(buf, place, claim.base, claim.size, claim.kind)
+    let place = stream::past_threes(buf, at, number);
+    stream::is_three(buf, place, claim.base, claim.size, claim.kind)
 }
 
 // Whether the claims of a tree's blocks are the `count` at a place, or their first `enough` are. A proved loop has to
 // end, and a cursor does not show that it comes to an end, so the steps are counted down.
 fn same_claims<'a>(
-    buf: &'a [u8; stream::SPACE],
+    buf: &'a [u8],
     at: usize,
     count: u64,
     enough: u64,
@@ -181,7 +173,7 @@ fn same_claims<'a>(
 
 // The same of an opened tree.
 fn opened_claims<'a>(
-    buf: &'a [u8; stream::SPACE],
+    buf: &'a [u8],
     at: usize,
     count: u64,
     enough: u64,
@@ -199,7 +191,7 @@ fn opened_claims<'a>(
 
 // The same of a tree's bytes. What cannot be opened claims nothing.
 fn tree_claims<'a>(
-    buf: &'a [u8; stream::SPACE],
+    buf: &'a [u8],
     at: usize,
     count: u64,
     enough: u64,
@@ -218,7 +210,7 @@ fn tree_claims<'a>(
 // Whether a tree claims what stands at a place, by the answer: all of it where that is 0, up to the refused claim where
 // it is 2. A tree that is refused itself has no claims there, and ours are not looked at.
 fn answered_claims<'a>(
-    buf: &'a [u8; stream::SPACE],
+    buf: &'a [u8],
     at: usize,
     count: u64,
     answer: u64,
@@ -239,15 +231,10 @@ fn answered_claims<'a>(
 
 // Makes the calls of the case at a place, and answers the first part that differs: 1 the answer, 2 a claim or the number
 // of claims, 3 the map.
-fn replay_case(buf: &[u8; stream::SPACE], at: usize) -> u64 {
+fn replay_case(buf: &[u8], at: usize) -> u64 {
     let p = parts_of(buf, at);
-    let bytes: &[u8] = buf;
-    let tree = words::part(
-        bytes,
-        p.tree,
-        stream::word(buf, stream::past(at, 2)) as usize,
-    );
-    let arm = stream::word(buf, stream::past(at, 1)) == 1;
+    let tree = words::part(buf, p.tree, stream::nth(buf, at, 2) as usize);
+    let arm = stream::nth(buf, at, 1) == 1;
     let map = map_before(buf, p.before, stream::word(buf, at));
     let r = dtb::register_devicetree(map, tree, arm);
     let answer = r.answer;
@@ -255,7 +242,7 @@ fn replay_case(buf: &[u8; stream::SPACE], at: usize) -> u64 {
     if number != stream::word(buf, p.answer) {
         return 1;
     }
-    let count = stream::word(buf, stream::past(at, 3));
+    let count = stream::nth(buf, at, 3);
     if !answered_claims(buf, p.claims, count, number, tree, arm) {
         return 2;
     }
@@ -268,7 +255,7 @@ fn replay_case(buf: &[u8; stream::SPACE], at: usize) -> u64 {
 
 // Replays case after case. A proved loop has to end, and nothing says that a stream does, so it counts its turns
 // down, from a number that no run uses up.
-fn replay(buf: &mut [u8; stream::SPACE]) -> Tally {
+fn replay(buf: &mut [u8; SPACE]) -> Tally {
     let mut tally = stream::fresh();
     let mut have: usize = 0;
     let mut at: usize = 0;
@@ -293,6 +280,6 @@ fn replay(buf: &mut [u8; stream::SPACE]) -> Tally {
 }
 
 fn main() {
-    let mut buf = [0u8; stream::SPACE];
-    stream::report(replay(&mut buf));
+    let mut buf = [0u8; SPACE];
+    stream::report(replay(&mut buf), b"case");
 }

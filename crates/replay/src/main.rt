@@ -8,6 +8,7 @@ use areas::Built;
 use areas::Limit;
 use memory::MemoryMap;
 use memory::Registered;
+use stream::Tally;
 
 // The bytes that are held of the stream. A case takes less than half of them.
 const SPACE: usize = 131072;
@@ -33,70 +34,21 @@ struct Run {
     same: bool,
 }
 
-// How many cases there were, how many of them differ, and the first that does, with its part.
-struct Tally {
-    cases: u64,
-    differ: u64,
-    case: u64,
-    part: u64,
-    cut: bool,
-}
-
-fn wide(x: u8) -> u64 {
-    x as u64
-}
-
-// The number in the 8 bytes at a place, the lowest byte first, or 0 where they are not in the space.
-fn word(buf: &[u8; SPACE], at: usize) -> u64 {
-    if SPACE - 8 < at {
-        return 0;
-    }
-    let a = (wide(buf[at + 7]) << 8) | wide(buf[at + 6]);
-    let b = (a << 16) | (wide(buf[at + 5]) << 8) | wide(buf[at + 4]);
-    let c = (b << 16) | (wide(buf[at + 3]) << 8) | wide(buf[at + 2]);
-    (c << 16) | (wide(buf[at + 1]) << 8) | wide(buf[at])
-}
-
-// The place so many bytes further on, or the end of the space where that lies past it.
-fn forward(at: usize, bytes: u64) -> usize {
-    if 131072 < bytes {
-        return SPACE;
-    }
-    let n = bytes as usize;
-    if SPACE - n < at {
-        return SPACE;
-    }
-    at + n
-}
-
-// The same for numbers.
-fn past(at: usize, words: u64) -> usize {
-    if 16384 < words {
-        return SPACE;
-    }
-    forward(at, words * 8)
-}
-
-// The same for registrations and entries of a map, of three numbers each.
-fn past_threes(at: usize, count: u64) -> usize {
-    past(past(past(at, count), count), count)
-}
-
 // The place after a map: its count, and its entries.
-fn past_map(buf: &[u8; SPACE], at: usize) -> usize {
-    past_threes(past(at, 1), word(buf, at))
+fn past_map(buf: &[u8], at: usize) -> usize {
+    stream::past_threes(buf, stream::past(buf, at, 1), stream::word(buf, at))
 }
 
-fn parts_of(buf: &[u8; SPACE], at: usize) -> Parts {
-    let n = word(buf, at);
-    let claims = past(at, 8);
-    let answers = past_threes(claims, n);
-    let listed = past(answers, n);
-    let first = past(listed, 1);
+fn parts_of(buf: &[u8], at: usize) -> Parts {
+    let n = stream::word(buf, at);
+    let claims = stream::past(buf, at, 8);
+    let answers = stream::past_threes(buf, claims, n);
+    let listed = stream::past(buf, answers, n);
+    let first = stream::past(buf, listed, 1);
     let list = past_map(buf, first);
     let all = past_map(buf, list);
     let built = past_map(buf, all);
-    let end = past(past(built, 2), word(buf, past(at, 7)));
+    let end = stream::past(buf, stream::past(buf, built, 2), stream::nth(buf, at, 7));
     Parts {
         claims,
         answers,
@@ -110,20 +62,20 @@ fn parts_of(buf: &[u8; SPACE], at: usize) -> Parts {
 }
 
 // Whether a case that ends at a place is there as a whole, and has such counts as the stream's maker gives.
-fn is_whole(buf: &[u8; SPACE], at: usize, end: usize, have: usize) -> bool {
+fn is_whole(buf: &[u8], at: usize, end: usize, have: usize) -> bool {
     if have < end {
         return false;
     }
-    if SPACE <= end {
+    if buf.len() <= end {
         return false;
     }
-    if word(buf, at) < word(buf, past(at, 1)) {
+    if stream::word(buf, at) < stream::nth(buf, at, 1) {
         return false;
     }
-    if 23 < word(buf, past(at, 2)) {
+    if 23 < stream::nth(buf, at, 2) {
         return false;
     }
-    word(buf, past(at, 7)) <= SLOTS as u64
+    stream::nth(buf, at, 7) <= SLOTS as u64
 }
 
 // The map that a case starts from.
@@ -134,18 +86,18 @@ fn start() -> MemoryMap
 }
 
 // Makes the registration at a place.
-fn register_at(buf: &[u8; SPACE], at: usize, map: MemoryMap) -> Registered
+fn register_at(buf: &[u8], at: usize, map: MemoryMap) -> Registered
     requires { ⌜ Made 4096 map ⌝ }
     ensures { λ r. ⌜ Made 4096 (r .map) ⌝ }
 {
-    let base = word(buf, at);
-    let size = word(buf, past(at, 1));
-    let kind = word(buf, past(at, 2));
+    let base = stream::word(buf, at);
+    let size = stream::nth(buf, at, 1);
+    let kind = stream::nth(buf, at, 2);
     map.register(base, size, kind)
 }
 
 // Makes the registrations from number `from` up to `to` one by one, and compares each answer.
-fn register_each(buf: &[u8; SPACE], p: Parts, map: MemoryMap, from: u64, to: u64) -> Run
+fn register_each(buf: &[u8], p: Parts, map: MemoryMap, from: u64, to: u64) -> Run
     requires { ⌜ Made 4096 map ⌝ }
     ensures { λ r. ⌜ Made 4096 (r .map) ⌝ }
 {
@@ -153,9 +105,9 @@ fn register_each(buf: &[u8; SPACE], p: Parts, map: MemoryMap, from: u64, to: u64
     let mut same = true;
     let mut i = from;
     while i < to {
-        let r = register_at(buf, past_threes(p.claims, i), held);
+        let r = register_at(buf, stream::past_threes(buf, p.claims, i), held);
         let answer = r.answer;
-        if wide(answer.number()) != word(buf, past(p.answers, i)) {
+        if stream::wide(answer.number()) != stream::nth(buf, p.answers, i) {
             same = false;
         }
         let next = r.map;
@@ -172,37 +124,21 @@ fn least(a: usize, b: usize) -> usize
 }
 
 // Hands the registrations from number `from` up to `to`, with the bytes of the tail, over as one list.
-fn register_list(
-    buf: &[u8; SPACE],
-    p: Parts,
-    map: MemoryMap,
-    from: u64,
-    to: u64,
-    tail: u64,
-) -> Registered
+fn register_list(buf: &[u8], p: Parts, map: MemoryMap, from: u64, to: u64, tail: u64) -> Registered
     requires { ⌜ Made 4096 map ⌝ }
 {
-    let bytes: &[u8] = buf;
-    let end = least(forward(past_threes(p.claims, to), tail), bytes.len());
-    let start = least(past_threes(p.claims, from), end);
-    bootloader::register_bootloader_areas(map, &bytes[start..end])
-}
-
-// Whether an entry stands at a place.
-fn same_entry(buf: &[u8; SPACE], at: usize, start: u64, end: u64, kind: u64) -> bool {
-    if word(buf, at) != start {
-        return false;
-    }
-    if word(buf, past(at, 1)) != end {
-        return false;
-    }
-    word(buf, past(at, 2)) == kind
+    let end = least(
+        stream::forward(buf, stream::past_threes(buf, p.claims, to), tail),
+        buf.len(),
+    );
+    let start = least(stream::past_threes(buf, p.claims, from), end);
+    bootloader::register_bootloader_areas(map, &buf[start..end])
 }
 
 // Whether a map holds the entries that stand at a place, in their order.
-fn same_map(buf: &[u8; SPACE], at: usize, map: MemoryMap) -> bool {
+fn same_map(buf: &[u8], at: usize, map: MemoryMap) -> bool {
     let n = map.size;
-    if n as u64 != word(buf, at) {
+    if n as u64 != stream::word(buf, at) {
         return false;
     }
     if 512 < n {
@@ -210,8 +146,8 @@ fn same_map(buf: &[u8; SPACE], at: usize, map: MemoryMap) -> bool {
     }
     let mut i: usize = 0;
     while i < n {
-        let entry = past_threes(past(at, 1), i as u64);
-        if !same_entry(buf, entry, map.starts[i], map.ends[i], map.kinds[i]) {
+        let entry = stream::past_threes(buf, stream::past(buf, at, 1), i as u64);
+        if !stream::is_three(buf, entry, map.starts[i], map.ends[i], map.kinds[i]) {
             return false;
         }
         i += 1;
@@ -240,13 +176,13 @@ fn untouched() -> [u64; SLOTS]
 }
 
 // Whether the first `len` numbers are those at a place.
-fn same_slots(buf: &[u8; SPACE], at: usize, slots: &[u64; SLOTS], len: usize) -> bool {
+fn same_slots(buf: &[u8], at: usize, slots: &[u64; SLOTS], len: usize) -> bool {
     if SLOTS < len {
         return false;
     }
     let mut i: usize = 0;
     while i < len {
-        if slots[i] != word(buf, past(at, i as u64)) {
+        if slots[i] != stream::nth(buf, at, i as u64) {
             return false;
         }
         i += 1;
@@ -270,21 +206,21 @@ fn build(map: MemoryMap, low: Limit, high: Limit, slots: &mut [u64], len: usize)
 }
 
 // Builds the areas of a map, and answers the part that differs.
-fn replay_build(buf: &[u8; SPACE], at: usize, p: Parts, map: MemoryMap) -> u64
+fn replay_build(buf: &[u8], at: usize, p: Parts, map: MemoryMap) -> u64
     requires { ⌜ Made 4096 map ⌝ }
 {
-    let low = limit(word(buf, past(at, 3)), word(buf, past(at, 4)));
-    let high = limit(word(buf, past(at, 5)), word(buf, past(at, 6)));
-    let len = word(buf, past(at, 7)) as usize;
+    let low = limit(stream::nth(buf, at, 3), stream::nth(buf, at, 4));
+    let high = limit(stream::nth(buf, at, 5), stream::nth(buf, at, 6));
+    let len = stream::nth(buf, at, 7) as usize;
     let mut slots = untouched();
     let built = build(map, low, high, &mut slots, len);
-    if wide(built.number()) != word(buf, p.built) {
+    if stream::wide(built.number()) != stream::word(buf, p.built) {
         return 6;
     }
-    if count(built) != word(buf, past(p.built, 1)) {
+    if count(built) != stream::nth(buf, p.built, 1) {
         return 6;
     }
-    if same_slots(buf, past(p.built, 2), &slots, len) {
+    if same_slots(buf, stream::past(buf, p.built, 2), &slots, len) {
         return 0;
     }
     7
@@ -292,9 +228,9 @@ fn replay_build(buf: &[u8; SPACE], at: usize, p: Parts, map: MemoryMap) -> u64
 
 // Makes the calls of the case at a place, and answers the first part that differs: 1 a registration's answer, 2 the
 // list's, 3 the map after the first registrations, 4 after the list, 5 after all, 6 the build's answer, 7 the areas.
-fn replay_case(buf: &[u8; SPACE], at: usize, p: Parts) -> u64 {
-    let n = word(buf, at);
-    let k = word(buf, past(at, 1));
+fn replay_case(buf: &[u8], at: usize, p: Parts) -> u64 {
+    let n = stream::word(buf, at);
+    let k = stream::nth(buf, at, 1);
     let first = register_each(buf, p, start(), 0, k);
     let held = first.map;
     let rest = register_each(buf, p, held, k, n);
@@ -305,9 +241,9 @@ fn replay_case(buf: &[u8; SPACE], at: usize, p: Parts) -> u64 {
     if !rest.same {
         return 1;
     }
-    let listed = register_list(buf, p, held, k, n, word(buf, past(at, 2)));
+    let listed = register_list(buf, p, held, k, n, stream::nth(buf, at, 2));
     let answer = listed.answer;
-    if wide(answer.number()) != word(buf, p.listed) {
+    if stream::wide(answer.number()) != stream::word(buf, p.listed) {
         return 2;
     }
     if !same_map(buf, p.first, held) {
@@ -323,63 +259,17 @@ fn replay_case(buf: &[u8; SPACE], at: usize, p: Parts) -> u64 {
     replay_build(buf, at, p, all)
 }
 
-// Moves the bytes from `at` up to `have` to the front, and answers how many they are.
-fn shift(buf: &mut [u8; SPACE], at: usize, have: usize) -> usize {
-    if SPACE < have {
-        return 0;
-    }
-    if have < at {
-        return 0;
-    }
-    let n = have - at;
-    let mut i: usize = 0;
-    while i < n {
-        buf[i] = buf[at + i];
-        i += 1;
-    }
-    n
-}
-
-// Fills the space behind its first `have` bytes from standard input, and answers how many there are then.
-fn fill(buf: &mut [u8], have: usize) -> usize {
-    if buf.len() <= have {
-        return have;
-    }
-    have + io::read_full(libc::STDIN_FILENO, &mut buf[have..])
-}
-
-fn counted(tally: Tally, part: u64) -> Tally {
-    let mut t = tally;
-    t.cases = std::num::wrapping_add_u64(t.cases, 1);
-    if part == 0 {
-        return t;
-    }
-    if t.differ == 0 {
-        t.case = tally.cases;
-        t.part = part;
-    }
-    t.differ = std::num::wrapping_add_u64(t.differ, 1);
-    t
-}
-
 // Replays case after case. A proved loop has to end, and nothing says that a stream does, so it counts its turns
 // down, from a number that no run uses up.
 fn replay(buf: &mut [u8; SPACE]) -> Tally {
-    let mut tally = Tally {
-        cases: 0,
-        differ: 0,
-        case: 0,
-        part: 0,
-        cut: false,
-    };
-    let mut have = fill(buf, 0);
+    let mut tally = stream::fresh();
+    let mut have = stream::refill(buf, 0, 0);
     let mut at: usize = 0;
     let mut turns = u64::MAX;
     while 0 < turns {
         turns -= 1;
         if SPACE / 2 < at {
-            let kept = shift(buf, at, have);
-            have = fill(buf, kept);
+            have = stream::refill(buf, at, have);
             at = 0;
         }
         if have <= at {
@@ -390,28 +280,13 @@ fn replay(buf: &mut [u8; SPACE]) -> Tally {
             tally.cut = true;
             return tally;
         }
-        tally = counted(tally, replay_case(buf, at, p));
+        tally = stream::counted(tally, replay_case(buf, at, p));
         at = p.end;
     }
     tally
 }
 
-fn print(label: &[u8], n: u64) {
-    io::write_all(libc::STDOUT_FILENO, label);
-    io::print_decimal(libc::STDOUT_FILENO, n);
-    io::write_all(libc::STDOUT_FILENO, b"\n");
-}
-
 fn main() {
     let mut buf = [0u8; SPACE];
-    let tally = replay(&mut buf);
-    if tally.cut {
-        io::write_all(libc::STDOUT_FILENO, b"cut off\n");
-    }
-    print(b"cases ", tally.cases);
-    print(b"differ ", tally.differ);
-    if tally.differ != 0 {
-        print(b"first differs: case ", tally.case);
-        print(b"in part ", tally.part);
-    }
+    stream::report(replay(&mut buf), b"case");
 }

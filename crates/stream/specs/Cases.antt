@@ -1,8 +1,9 @@
 -- What is read of a stream of cases, and how cases are counted.
-use Prim.Native.Nat.{ℕ, _+_, _*_, _%_, _^_}
+use Prim.Native.Nat.{ℕ, _+_, _*_, _%_, _^_, _≤_, _<_}
+use mathlib.Core.Path.{_≡_}
 use mathlib.Core.List.{List}
-use mathlib.Core.Bool.{false, cond}
-use lib.ListN.{getD}
+use mathlib.Core.Bool.{Bool, true, false, cond}
+use lib.ListN.{length, getD}
 use lib.Dec.{eqb}
 use Rattle.stream.specs.declared.Tally.{Tally}
 
@@ -17,6 +18,22 @@ number l i =
     + 256 * (getD l (i + 5) 0
     + 256 * (getD l (i + 6) 0
     + 256 * getD l (i + 7) 0))))))
+
+-- r is the number at place i, or 0 where the bytes do not have it whole
+abbrev pub NumberAt : List ℕ → ℕ → ℕ → Type 0
+NumberAt l i r = (i + 8 ≤ length l → r ≡ number l i) × (length l < i + 8 → r ≡ 0)
+
+-- r is the place n bytes further on than place i, or the end of the bytes where that lies past it
+abbrev pub Ahead : List ℕ → ℕ → ℕ → ℕ → Type 0
+Ahead l i n r = (i + n ≤ length l → r ≡ i + n) × (length l < i + n → r ≡ length l)
+
+-- a, b and c are the three numbers from place i on
+abbrev pub Three : List ℕ → ℕ → ℕ → ℕ → ℕ → Type 0
+Three l i a b c = NumberAt l i a × NumberAt l (i + 8) b × NumberAt l (i + 16) c
+
+-- r is true where A holds, and nowhere else
+abbrev pub Tells : Bool → Type 0 → Type 0
+Tells r A = (r ≡ true → A) × (A → r ≡ true)
 
 -- before the first case
 abbrev pub none : Tally

@@ -6,9 +6,14 @@ use fdt::Opened;
 use fdt::Token;
 use nodes::Found;
 use nodes::Value;
+use stream::Tally;
 
 // The bytes that are held of the stream. The largest tree takes half of them, and its text is short.
 const SPACE: usize = 2097152;
+
+// The two lengths at the start of a case, of 4 bytes each, are read as one number: the text's, this many times, and the
+// blob's.
+const LENGTHS: u64 = 0x1_0000_0000;
 
 // A place that neither a text nor a block has: what was looked for is not there, or something before it differed.
 const NONE: usize = 0xffff_ffff;
@@ -24,40 +29,6 @@ enum Next {
     Node(usize, usize),
     Done,
     Lost,
-}
-
-// How many trees there were, how many of them differ, and the first that does, with its part.
-struct Tally {
-    trees: u64,
-    differ: u64,
-    first: u64,
-    part: u64,
-    cut: bool,
-}
-
-fn wide(x: u8) -> u64 {
-    x as u64
-}
-
-// The number in the 4 bytes at a place, the lowest byte first, or 0 where they are not in the space.
-fn word(buf: &[u8; SPACE], at: usize) -> usize {
-    if SPACE - 4 < at {
-        return 0;
-    }
-    let high = (wide(buf[at + 3]) << 8) | wide(buf[at + 2]);
-    let n = (high << 16) | (wide(buf[at + 1]) << 8) | wide(buf[at]);
-    n as usize
-}
-
-// The place so many bytes further on, or the end of the space where that lies past it.
-fn forward(at: usize, bytes: usize) -> usize {
-    if SPACE < bytes {
-        return SPACE;
-    }
-    if SPACE - bytes < at {
-        return SPACE;
-    }
-    at + bytes
 }
 
 fn difference(high: usize, low: usize) -> usize {
@@ -161,7 +132,7 @@ fn same_reservations<'a>(blob: &'a [u8], text: &'a [u8], b: Blocks) -> usize {
             return p;
         }
         let address = words::be64(blob, at);
-        let size = words::be64(blob, forward(at, 8));
+        let size = words::be64(blob, at + 8);
         if address | size == 0 {
             return p;
         }
@@ -245,8 +216,8 @@ fn name_at<'a>(structure: &'a [u8], strings: &'a [u8], at: usize) -> &'a [u8] {
 fn value_at(structure: &[u8], at: usize) -> &[u8] {
     words::part(
         structure,
-        forward(at, 12),
-        words::be32(structure, forward(at, 4)),
+        stream::forward(structure, at, 12),
+        words::be32(structure, stream::forward(structure, at, 4)),
     )
 }
 
@@ -329,10 +300,10 @@ fn finds<'a>(structure: &'a [u8], strings: &'a [u8], node: usize, name: &'a [u8]
             if place == NONE {
                 return false;
             }
-            if at != forward(place, 12) {
+            if at != stream::forward(structure, place, 12) {
                 return false;
             }
-            len == words::be32(structure, forward(place, 4))
+            len == words::be32(structure, stream::forward(structure, place, 4))
         }
         Value::Missing => place == NONE,
     }
@@ -386,7 +357,7 @@ fn finds_properties<'a>(structure: &'a [u8], strings: &'a [u8], node: usize, abo
 
 // Whether a cell count is what the property at a place says, or that there is none.
 fn counts(structure: &[u8], at: usize, found: CellCount) -> bool {
-    let len = words::be32(structure, forward(at, 4));
+    let len = words::be32(structure, stream::forward(structure, at, 4));
     match found {
         CellCount::Stated(n) => {
             if at == NONE {
@@ -395,7 +366,7 @@ fn counts(structure: &[u8], at: usize, found: CellCount) -> bool {
             if len != 4 {
                 return false;
             }
-            n == words::be32(structure, forward(at, 12))
+            n == words::be32(structure, stream::forward(structure, at, 12))
         }
         CellCount::Absent => at == NONE,
         CellCount::Faulty => {
@@ -762,7 +733,7 @@ fn same_tree<'a>(blob: &'a [u8], text: &'a [u8], b: Blocks) -> u64 {
 // Whether a text is that of a refusal.
 fn is_refusal(text: &[u8], number: u8) -> bool {
     let a = same_bytes(text, 0, b"refused ");
-    let b = same_decimal(text, a, wide(number));
+    let b = same_decimal(text, a, stream::wide(number));
     is_end(text, same_byte(text, b, b'\n'))
 }
 
@@ -784,92 +755,47 @@ fn replay_tree<'a>(blob: &'a [u8], text: &'a [u8]) -> u64 {
     }
 }
 
-fn replay_case(buf: &[u8; SPACE], at: usize) -> u64 {
-    let n = word(buf, at);
-    let m = word(buf, forward(at, 4));
-    let start = forward(at, 8);
-    let bytes: &[u8] = buf;
+fn replay_case(buf: &[u8], at: usize) -> u64 {
+    let lengths = stream::word(buf, at);
+    let blob = stream::past(buf, at, 1);
+    let n = lengths % LENGTHS;
+    let text = stream::forward(buf, blob, n);
     replay_tree(
-        words::part(bytes, start, n),
-        words::part(bytes, forward(start, n), m),
+        words::part(buf, blob, n as usize),
+        words::part(buf, text, (lengths / LENGTHS) as usize),
     )
 }
 
 // The place after a case.
-fn case_end(buf: &[u8; SPACE], at: usize) -> usize {
-    let blob = forward(forward(at, 8), word(buf, at));
-    forward(blob, word(buf, forward(at, 4)))
+fn case_end(buf: &[u8], at: usize) -> usize {
+    let lengths = stream::word(buf, at);
+    let text = stream::forward(buf, stream::past(buf, at, 1), lengths % LENGTHS);
+    stream::forward(buf, text, lengths / LENGTHS)
 }
 
 // Whether a case is there as a whole. Its lengths are read only where they are.
-fn is_whole(buf: &[u8; SPACE], at: usize, have: usize) -> bool {
-    if have < forward(at, 8) {
+fn is_whole(buf: &[u8], at: usize, have: usize) -> bool {
+    if have < stream::past(buf, at, 1) {
         return false;
     }
     let end = case_end(buf, at);
-    if SPACE <= end {
+    if buf.len() <= end {
         return false;
     }
     end <= have
 }
 
-// Moves the bytes from `at` up to `have` to the front, and answers how many they are.
-fn shift(buf: &mut [u8; SPACE], at: usize, have: usize) -> usize {
-    if SPACE < have {
-        return 0;
-    }
-    if have < at {
-        return 0;
-    }
-    let n = have - at;
-    let mut i: usize = 0;
-    while i < n {
-        buf[i] = buf[at + i];
-        i += 1;
-    }
-    n
-}
-
-// Fills the space behind its first `have` bytes from standard input, and answers how many there are then.
-fn fill(buf: &mut [u8], have: usize) -> usize {
-    if buf.len() <= have {
-        return have;
-    }
-    have + io::read_full(libc::STDIN_FILENO, &mut buf[have..])
-}
-
-fn counted(tally: Tally, part: u64) -> Tally {
-    let mut t = tally;
-    t.trees = std::num::wrapping_add_u64(t.trees, 1);
-    if part == 0 {
-        return t;
-    }
-    if t.differ == 0 {
-        t.first = tally.trees;
-        t.part = part;
-    }
-    t.differ = std::num::wrapping_add_u64(t.differ, 1);
-    t
-}
-
 // Replays case after case. A proved loop has to end, and nothing says that a stream does, so it counts its turns
 // down, from a number that no run uses up.
 fn replay(buf: &mut [u8; SPACE]) -> Tally {
-    let mut tally = Tally {
-        trees: 0,
-        differ: 0,
-        first: 0,
-        part: 0,
-        cut: false,
-    };
+    let mut tally = stream::fresh();
     let mut have: usize = 0;
     let mut at: usize = 0;
     let mut turns = u64::MAX;
     while 0 < turns {
         turns -= 1;
         if !is_whole(buf, at, have) {
-            let kept = shift(buf, at, have);
-            have = fill(buf, kept);
+            have = stream::refill(buf, at, have);
             at = 0;
             if have == 0 {
                 return tally;
@@ -879,28 +805,13 @@ fn replay(buf: &mut [u8; SPACE]) -> Tally {
                 return tally;
             }
         }
-        tally = counted(tally, replay_case(buf, at));
+        tally = stream::counted(tally, replay_case(buf, at));
         at = case_end(buf, at);
     }
     tally
 }
 
-fn print(label: &[u8], n: u64) {
-    io::write_all(libc::STDOUT_FILENO, label);
-    io::print_decimal(libc::STDOUT_FILENO, n);
-    io::write_all(libc::STDOUT_FILENO, b"\n");
-}
-
 fn main() {
     let mut buf = [0u8; SPACE];
-    let tally = replay(&mut buf);
-    if tally.cut {
-        io::write_all(libc::STDOUT_FILENO, b"cut off\n");
-    }
-    print(b"trees ", tally.trees);
-    print(b"differ ", tally.differ);
-    if tally.differ != 0 {
-        print(b"first differs: tree ", tally.first);
-        print(b"in part ", tally.part);
-    }
+    stream::report(replay(&mut buf), b"tree");
 }

@@ -9,8 +9,11 @@ Inv-loop buf₀ tally₀ have₀ at₀ turns₀ buf tally have at turns = Unit {
 abbrev μ-loop : tie.MeasureT-loop
 μ-loop buf₀ tally₀ have₀ at₀ turns₀ buf tally have at turns = turns
 
-fill-requires : tie.Need-fill-requires Inv-loop μ-loop
-fill-requires c κs = search needs
+fresh-requires : tie.Need-fresh-requires Inv-loop μ-loop
+fresh-requires c κs = search needs
+
+refill-requires : tie.Need-refill-requires Inv-loop μ-loop
+refill-requires c κs = search needs
 
 loop-holds : tie.Need-loop-holds Inv-loop μ-loop
 loop-holds c = search needs
@@ -18,11 +21,8 @@ loop-holds c = search needs
 sub-turns : tie.Need-sub-turns Inv-loop μ-loop
 sub-turns c = search needs
 
-shift-requires : tie.Need-shift-requires Inv-loop μ-loop
-shift-requires c κs = search needs
-
-fill-requires-2 : tie.Need-fill-requires-2 Inv-loop μ-loop
-fill-requires-2 c κs = search needs
+refill-requires-2 : tie.Need-refill-requires-2 Inv-loop μ-loop
+refill-requires-2 c κs = search needs
 
 returns : tie.Need-returns Inv-loop μ-loop
 returns c = search needs
@@ -57,11 +57,11 @@ replay-spec =
     (tie.spec
     Inv-loop
     μ-loop
-    fill-requires
+    fresh-requires
+    refill-requires
     loop-holds
     sub-turns
-    shift-requires
-    fill-requires-2
+    refill-requires-2
     returns
     parts-of-requires
     is-whole-requires

@@ -28,26 +28,26 @@ past-requires c κs = search needs
 past-threes-requires : tie.Need-past-threes-requires Inv-loop μ-loop
 past-threes-requires c κs = search needs
 
-mul-same-entry : tie.Need-mul-same-entry Inv-loop μ-loop
-mul-same-entry c = search needs
+mul-is-three : tie.Need-mul-is-three Inv-loop μ-loop
+mul-is-three c = search needs
 
-element-copy-out-same-entry : tie.Need-element-copy-out-same-entry Inv-loop μ-loop
-element-copy-out-same-entry c = search needs
+element-copy-out-is-three : tie.Need-element-copy-out-is-three Inv-loop μ-loop
+element-copy-out-is-three c = search needs
 
-mul-same-entry-2 : tie.Need-mul-same-entry-2 Inv-loop μ-loop
-mul-same-entry-2 c = search needs
+mul-is-three-2 : tie.Need-mul-is-three-2 Inv-loop μ-loop
+mul-is-three-2 c = search needs
 
-element-copy-out-same-entry-2 : tie.Need-element-copy-out-same-entry-2 Inv-loop μ-loop
-element-copy-out-same-entry-2 c = search needs
+element-copy-out-is-three-2 : tie.Need-element-copy-out-is-three-2 Inv-loop μ-loop
+element-copy-out-is-three-2 c = search needs
 
-mul-same-entry-3 : tie.Need-mul-same-entry-3 Inv-loop μ-loop
-mul-same-entry-3 c = search needs
+mul-is-three-3 : tie.Need-mul-is-three-3 Inv-loop μ-loop
+mul-is-three-3 c = search needs
 
-element-copy-out-same-entry-3 : tie.Need-element-copy-out-same-entry-3 Inv-loop μ-loop
-element-copy-out-same-entry-3 c = search needs
+element-copy-out-is-three-3 : tie.Need-element-copy-out-is-three-3 Inv-loop μ-loop
+element-copy-out-is-three-3 c = search needs
 
-same-entry-requires : tie.Need-same-entry-requires Inv-loop μ-loop
-same-entry-requires c κs = search needs
+is-three-requires : tie.Need-is-three-requires Inv-loop μ-loop
+is-three-requires c κs = search needs
 
 returns-3 : tie.Need-returns-3 Inv-loop μ-loop
 returns-3 c = search needs
@@ -76,13 +76,13 @@ same-map-spec =
     loop-holds
     past-requires
     past-threes-requires
-    mul-same-entry
-    element-copy-out-same-entry
-    mul-same-entry-2
-    element-copy-out-same-entry-2
-    mul-same-entry-3
-    element-copy-out-same-entry-3
-    same-entry-requires
+    mul-is-three
+    element-copy-out-is-three
+    mul-is-three-2
+    element-copy-out-is-three-2
+    mul-is-three-3
+    element-copy-out-is-three-3
+    is-three-requires
     returns-3
     add-i
     loop-less

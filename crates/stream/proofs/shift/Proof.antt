@@ -1,14 +1,16 @@
 -- `shift` is safe and ends.
 use Prim.Native.Nat.{_≤_, _+_, _-_}
+use mathlib.Core.Path.{_≡_}
+use lib.ListN.{length, length-set}
 use borrow.Author.Needs.{needs}
 use Rattle.stream.proofs.shift.Statement.{statement}
 use Rattle.stream.proofs.shift.Tie as tie
 
 abbrev Inv-loop : tie.InvT-loop
-Inv-loop buf₀ at have n i₀ buf i = (i ≤ n) × (at + n ≤ 131072)
+Inv-loop space₀ at have n i₀ space i = (i ≤ n) × (at + n ≤ length space₀) × (length space ≡ length space₀)
 
 abbrev μ-loop : tie.MeasureT-loop
-μ-loop buf₀ at have n i₀ buf i = n - i
+μ-loop space₀ at have n i₀ space i = n - i
 
 returns : tie.Need-returns Inv-loop μ-loop
 returns c = search needs
@@ -19,14 +21,14 @@ returns-2 c = search needs
 loop-holds : tie.Need-loop-holds Inv-loop μ-loop
 loop-holds c = search needs
 
-add-buf : tie.Need-add-buf Inv-loop μ-loop
-add-buf c = search needs
+add-space : tie.Need-add-space Inv-loop μ-loop
+add-space c = search needs
 
-element-copy-out-buf : tie.Need-element-copy-out-buf Inv-loop μ-loop
-element-copy-out-buf c = search needs
+slice-read-space : tie.Need-slice-read-space Inv-loop μ-loop
+slice-read-space c = search needs
 
-element-write-buf : tie.Need-element-write-buf Inv-loop μ-loop
-element-write-buf c = search needs
+slice-write-space : tie.Need-slice-write-space Inv-loop μ-loop
+slice-write-space c = search needs
 
 add-i : tie.Need-add-i Inv-loop μ-loop
 add-i c = search needs
@@ -35,7 +37,10 @@ loop-less : tie.Need-loop-less Inv-loop μ-loop
 loop-less c = search needs
 
 loop-again : tie.Need-loop-again Inv-loop μ-loop
-loop-again c = search needs
+loop-again c = simp length-set (search needs)
+
+same-length : tie.Need-same-length Inv-loop μ-loop
+same-length c = search needs
 
 returns-3 : tie.Need-returns-3 Inv-loop μ-loop
 returns-3 c = search needs
@@ -49,10 +54,11 @@ shift-spec =
     returns
     returns-2
     loop-holds
-    add-buf
-    element-copy-out-buf
-    element-write-buf
+    add-space
+    slice-read-space
+    slice-write-space
     add-i
     loop-less
     loop-again
+    same-length
     returns-3)

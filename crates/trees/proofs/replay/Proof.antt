@@ -9,6 +9,9 @@ Inv-loop buf₀ tally₀ have₀ at₀ turns₀ buf tally have at turns = Unit {
 abbrev μ-loop : tie.MeasureT-loop
 μ-loop buf₀ tally₀ have₀ at₀ turns₀ buf tally have at turns = turns
 
+fresh-requires : tie.Need-fresh-requires Inv-loop μ-loop
+fresh-requires c κs = search needs
+
 loop-holds : tie.Need-loop-holds Inv-loop μ-loop
 loop-holds c = search needs
 
@@ -18,11 +21,8 @@ sub-turns c = search needs
 is-whole-requires : tie.Need-is-whole-requires Inv-loop μ-loop
 is-whole-requires c κs = search needs
 
-shift-requires : tie.Need-shift-requires Inv-loop μ-loop
-shift-requires c κs = search needs
-
-fill-requires : tie.Need-fill-requires Inv-loop μ-loop
-fill-requires c κs = search needs
+refill-requires : tie.Need-refill-requires Inv-loop μ-loop
+refill-requires c κs = search needs
 
 returns : tie.Need-returns Inv-loop μ-loop
 returns c = search needs
@@ -57,11 +57,11 @@ replay-spec =
     (tie.spec
     Inv-loop
     μ-loop
+    fresh-requires
     loop-holds
     sub-turns
     is-whole-requires
-    shift-requires
-    fill-requires
+    refill-requires
     returns
     is-whole-requires-2
     returns-2

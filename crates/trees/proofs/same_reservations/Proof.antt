@@ -25,8 +25,8 @@ returns c = search needs
 be64-requires : tie.Need-be64-requires Inv-loop μ-loop
 be64-requires c κs = search needs
 
-forward-requires : tie.Need-forward-requires Inv-loop μ-loop
-forward-requires c κs = search needs
+add-be64 : tie.Need-add-be64 Inv-loop μ-loop
+add-be64 c = search needs
 
 be64-requires-2 : tie.Need-be64-requires-2 Inv-loop μ-loop
 be64-requires-2 c κs = search needs
@@ -60,7 +60,7 @@ same-reservations-spec =
     sub-if1
     returns
     be64-requires
-    forward-requires
+    add-be64
     be64-requires-2
     returns-2
     same-reservation-requires
