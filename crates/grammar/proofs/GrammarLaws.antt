@@ -153,13 +153,13 @@ module _ (b n : List ℕ) where
   -- ACCEPTED EXACTLY WHEN IT IS WRITTEN
   written : walked b n ≡ Accepted → Written b n
   written h =
-      let r = accepted-tree (lexAt b n 0) (sym (walked-run b n) ∙ h) in
+      let r = accepted-tree 32 4096 (omega arith) (omega arith) (lexAt b n 0) (sym (walked-run b n) ∙ h) in
       record { root = r .0; ps = r .1; kids = r .2; block = block-of (r .0) (r .1) (r .2) (r .3); within = record { levels = r .4; nodes = r .5 } }
 
   accepted : Written b n → walked b n ≡ Accepted
   accepted w =
       walked-run b n ∙ ap (λ (x : List Tok). runT x 0 0 false) (tokens-are (w .root) (w .ps) (w .kids) (w .block))
-      ∙ tree-accepted (w .root) (w .ps) (w .kids) (w .within .levels) (w .within .nodes)
+      ∙ tree-accepted 32 4096 (w .root) (w .ps) (w .kids) (w .within .levels) (w .within .nodes)
 
   pub accepted-exactly : (walked b n ≡ Accepted) ↔ Written b n
   accepted-exactly = (written, accepted)

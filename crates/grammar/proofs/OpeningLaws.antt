@@ -1,17 +1,20 @@
 -- What opening a tree says: each answer is given exactly when its condition holds, and a tree is opened exactly when its header is good,
--- its size is within the limit, and its structure block is the flattened form of a tree within the limits. Assumes nothing.
+-- its size is within the limit, and its structure block is the flattened form of a tree within the limits; of the others, the first
+-- token at fault says which number is given. Assumes nothing.
 use mathlib.Core.Path.{_≡_, refl, sym, _∙_, ap, subst}
 use mathlib.Core.Logic.{_↔_, _⊎_, inl, inr, ⊎-elim}
 use Prim.Native.Nat.{ℕ, _≤_, _<_}
 use native.Mathlib.Omega.{arith}
-use mathlib.Core.List.{List}
-use mathlib.Core.Bool.{true, false}
+use mathlib.Core.List.{List, _++_}
+use mathlib.Core.Bool.{Bool, true, false}
 use lib.ListN.{length}
 use lib.Dec.{leb, eqb}
 use borrow.Author.Tests.{eqb-true, eqb-false, leb-true, leb-false}
 use Rattle.fdt.specs.Header.{totalsize, GoodHeader, goodHeader, structureOf, stringsOf}
 use Rattle.fdt.specs.Walk.{walked}
-use Rattle.fdt.specs.Opening.{blocksOf, judged, openedOf}
+use Rattle.fdt.specs.Tree.{Property, Nodes, Tok}
+use Rattle.fdt.specs.Grammar.{Block, Within}
+use Rattle.fdt.specs.Opening.{openedNumber, blocksOf, judged, openedOf}
 use Rattle.fdt.specs.declared.Verdict.{Verdict}
 use Rattle.fdt.specs.declared.Verdict.the-variants.{Accepted, Broken, Over}
 use Rattle.fdt.specs.declared.Blocks.{Blocks}
@@ -20,8 +23,10 @@ use Rattle.fdt.specs.declared.Opened.the-variants.{NoTree, Tree, BadHeader, Ove
 use Rattle.words.proofs.BytesLaws.{never, cond-elim}
 use Rattle.fdt.proofs.HeaderLaws.{good-header, bad-header}
 use Rattle.fdt.proofs.VerdictLaws.{says-none, says-header, says-large, says-walked}
-use Rattle.grammar.specs.Written.{Written}
+use Rattle.grammar.specs.Faults.{Begins, BeginsWithin, Upto, here}
+use Rattle.grammar.specs.Numbers.{HeaderBroken, OverLimits, StructureBroken, Opens}
 use Rattle.grammar.proofs.GrammarLaws.{accepted-exactly}
+use Rattle.grammar.proofs.FaultLaws.{broken-exactly, exceeds-exactly, grammar-over, no-grammar-broken}
 
 module _ (s : List ℕ) where
   -- what holds where this is the answer
@@ -64,17 +69,24 @@ module _ (s : List ℕ) where
   pub no-tree-exactly : (openedOf s ≡ NoTree) ↔ (length s ≡ 0)
   no-tree-exactly = (says-of NoTree, (λ e. sym (says-none s e)))
 
-  pub bad-header-exactly : (openedOf s ≡ BadHeader) ↔ ((length s ≡ 0 → ⊥) × (GoodHeader s → ⊥))
+  pub bad-header-exactly : (openedOf s ≡ BadHeader) ↔ HeaderBroken s
   bad-header-exactly = (says-of BadHeader, (λ h. sym (says-header s (h .0) (sym (bad-header s (h .1))))))
 
-  pub over-exactly : (openedOf s ≡ OverLimit) ↔ (GoodHeader s × ((1048576 < totalsize s) ⊎ ((totalsize s ≤ 1048576) × (walked (structureOf s) (stringsOf s) ≡ Over))))
+  pub over-exactly : (openedOf s ≡ OverLimit) ↔ OverLimits s
   over-exactly =
-      (says-of OverLimit, (λ h. ⊎-elim (λ l. sym (says-large s (some-bytes (h .0)) (good-header s .1 (h .0)) l)) (λ w. by-walk Over (h .0) (w .0) (w .1)) (h .1)))
+      let x = exceeds-exactly (structureOf s) (stringsOf s) in (
+        (λ e. let h = says-of OverLimit e in (h .0, ⊎-elim (λ l. inl l) (λ w. inr (w .0, x .0 (w .1))) (h .1))),
+        (λ h. ⊎-elim (λ l. sym (says-large s (some-bytes (h .0)) (good-header s .1 (h .0)) l)) (λ w. by-walk Over (h .0) (w .0) (x .1 (w .1))) (h .1)),
+      )
 
-  pub bad-structure-exactly : (openedOf s ≡ BadStructure) ↔ (GoodHeader s × (totalsize s ≤ 1048576) × (walked (structureOf s) (stringsOf s) ≡ Broken))
-  bad-structure-exactly = (says-of BadStructure, (λ h. by-walk Broken (h .0) (h .1) (h .2)))
+  pub bad-structure-exactly : (openedOf s ≡ BadStructure) ↔ StructureBroken s
+  bad-structure-exactly =
+      let x = broken-exactly (structureOf s) (stringsOf s) in (
+        (λ e. let h = says-of BadStructure e in (h .0, h .1, x .0 (h .2))),
+        (λ h. by-walk Broken (h .0) (h .1) (x .1 (h .2))),
+      )
 
-  pub opened-exactly : (openedOf s ≡ Tree (blocksOf s)) ↔ (GoodHeader s × (totalsize s ≤ 1048576) × Written (structureOf s) (stringsOf s))
+  pub opened-exactly : (openedOf s ≡ Tree (blocksOf s)) ↔ Opens s
   opened-exactly = (
     (λ e. let h = says-of (Tree (blocksOf s)) e in (h .0, h .1, accepted-exactly (structureOf s) (stringsOf s) .0 (h .2))),
     (λ h. by-walk Accepted (h .0) (h .1) (accepted-exactly (structureOf s) (stringsOf s) .1 (h .2))),
@@ -83,3 +95,64 @@ module _ (s : List ℕ) where
   -- whatever blocks are answered, they are those of the header
   pub opened-blocks : (k : Blocks) → openedOf s ≡ Tree k → k ≡ blocksOf s
   opened-blocks k e = says-of (Tree k) e .3
+
+  -- THE NUMBERS: "Given exactly when"
+  number-of : (o : Opened) → openedOf s ≡ o → openedNumber (openedOf s) ≡ openedNumber o
+  number-of o e = ap openedNumber e
+
+  is-4 : (o : Opened) → openedNumber o ≡ 4 → o ≡ BadHeader
+  is-4 NoTree h = never (cc)
+  is-4 (Tree k) h = never (cc)
+  is-4 BadHeader h = refl
+  is-4 OverLimit h = never (cc)
+  is-4 BadStructure h = never (cc)
+
+  is-5 : (o : Opened) → openedNumber o ≡ 5 → o ≡ BadStructure
+  is-5 NoTree h = never (cc)
+  is-5 (Tree k) h = never (cc)
+  is-5 BadHeader h = never (cc)
+  is-5 OverLimit h = never (cc)
+  is-5 BadStructure h = refl
+
+  is-6 : (o : Opened) → openedNumber o ≡ 6 → o ≡ OverLimit
+  is-6 NoTree h = never (cc)
+  is-6 (Tree k) h = never (cc)
+  is-6 BadHeader h = never (cc)
+  is-6 OverLimit h = refl
+  is-6 BadStructure h = never (cc)
+
+  is-0 : (o : Opened) → openedOf s ≡ o → openedNumber o ≡ 0 → (length s ≡ 0) ⊎ Opens s
+  is-0 NoTree e h = inl (no-tree-exactly .0 e)
+  is-0 (Tree k) e h = inr (opened-exactly .0 (e ∙ ap Tree (opened-blocks k e)))
+  is-0 BadHeader e h = never (cc)
+  is-0 OverLimit e h = never (cc)
+  is-0 BadStructure e h = never (cc)
+
+  pub number-0 : (openedNumber (openedOf s) ≡ 0) ↔ ((length s ≡ 0) ⊎ Opens s)
+  number-0 = (is-0 (openedOf s) refl, λ h. ⊎-elim (λ e. number-of _ (no-tree-exactly .1 e)) (λ w. number-of _ (opened-exactly .1 w)) h)
+
+  pub number-4 : (openedNumber (openedOf s) ≡ 4) ↔ HeaderBroken s
+  number-4 = ((λ h. bad-header-exactly .0 (is-4 (openedOf s) h)), λ h. number-of _ (bad-header-exactly .1 h))
+
+  pub number-5 : (openedNumber (openedOf s) ≡ 5) ↔ StructureBroken s
+  number-5 = ((λ h. bad-structure-exactly .0 (is-5 (openedOf s) h)), λ h. number-of _ (bad-structure-exactly .1 h))
+
+  pub number-6 : (openedNumber (openedOf s) ≡ 6) ↔ OverLimits s
+  number-6 = ((λ h. over-exactly .0 (is-6 (openedOf s) h)), λ h. number-of _ (over-exactly .1 h))
+
+  -- a tree of the Specification that is not within the limits gives 6, and never 5
+  pub grammar-6 : GoodHeader s → (root : ℕ) (ps : List Property) (kids : Nodes) → Block (structureOf s) (stringsOf s) root ps kids
+      → (Within (structureOf s) (stringsOf s) kids → ⊥) → openedNumber (openedOf s) ≡ 6
+  grammar-6 g root ps kids k h = go (leb (totalsize s) 1048576) refl
+    where
+      go : (x : Bool) → leb (totalsize s) 1048576 ≡ x → openedNumber (openedOf s) ≡ 6
+      go true e =
+          number-6 .1 (g, inr (leb-true _ _ e, exceeds-exactly (structureOf s) (stringsOf s) .0 (grammar-over (structureOf s) (stringsOf s) root ps kids k h)))
+      go false e = number-6 .1 (g, inl (leb-false _ _ e))
+
+  -- what is no tree of the Specification gives 5, where all that is in order in it is within the limits
+  pub no-grammar-5 : GoodHeader s → totalsize s ≤ 1048576 → ((root : ℕ) (ps : List Property) (kids : Nodes) → Block (structureOf s) (stringsOf s) root ps kids → ⊥)
+      → ((p : ℕ) (ts : List Tok) → Upto (structureOf s) (stringsOf s) p ts → Begins (ts ++ here (structureOf s) (stringsOf s) p) → BeginsWithin (structureOf s) (stringsOf s) (ts ++ here (structureOf s) (stringsOf s) p))
+      → openedNumber (openedOf s) ≡ 5
+  no-grammar-5 g l h k =
+      number-5 .1 (g, l, broken-exactly (structureOf s) (stringsOf s) .0 (no-grammar-broken (structureOf s) (stringsOf s) h k))

@@ -21,144 +21,149 @@ use Rattle.fdt.specs.declared.Verdict.the-variants.{Accepted, Broken, Over}
 use Rattle.words.proofs.BytesLaws.{never, bytes-long}
 use Rattle.fdt.proofs.TokLaws.{Reach, reach}
 
--- the walk on tokens that are read already
-unfoldable pub runT : List Tok → ℕ → ℕ → Bool → Verdict
-runT [] d n a = Broken
-runT (begin p nm ∷ ts) zero n a = cond (eqb n 0) (cond (eqb (length nm) 0) (runT ts 1 1 true) Broken) Broken
-runT (begin p nm ∷ ts) (suc d) n a = cond (leb 32 (suc d)) Over (cond (leb 4096 n) Over (runT ts (suc (suc d)) (suc n) true))
-runT (ended ∷ ts) zero n a = Broken
-runT (ended ∷ ts) (suc d) n a = runT ts d n false
-runT (prop q ∷ ts) d n a = cond a (runT ts d n true) Broken
-runT (fin ∷ []) zero n a = cond (eqb n 0) Broken Accepted
-runT (fin ∷ []) (suc d) n a = Broken
-runT (fin ∷ t ∷ ts) d n a = Broken
-runT (bad ∷ ts) d n a = Broken
+-- the walk on tokens that are read already, with at most lv levels and nd nodes
+unfoldable pub runL : ℕ → ℕ → List Tok → ℕ → ℕ → Bool → Verdict
+runL lv nd [] d n a = Broken
+runL lv nd (begin p nm ∷ ts) zero n a = cond (eqb n 0) (cond (eqb (length nm) 0) (runL lv nd ts 1 1 true) Broken) Broken
+runL lv nd (begin p nm ∷ ts) (suc d) n a = cond (leb lv (suc d)) Over (cond (leb nd n) Over (runL lv nd ts (suc (suc d)) (suc n) true))
+runL lv nd (ended ∷ ts) zero n a = Broken
+runL lv nd (ended ∷ ts) (suc d) n a = runL lv nd ts d n false
+runL lv nd (prop q ∷ ts) d n a = cond a (runL lv nd ts d n true) Broken
+runL lv nd (fin ∷ []) zero n a = cond (eqb n 0) Broken Accepted
+runL lv nd (fin ∷ []) (suc d) n a = Broken
+runL lv nd (fin ∷ t ∷ ts) d n a = Broken
+runL lv nd (bad ∷ ts) d n a = Broken
 
--- after the properties, with more allowed, the walk stands as before
-run-props : (ps : List Property) (r : List Tok) (d n : ℕ) → runT (flatP ps r) d n true ≡ runT r d n true
-unfolding runT
-run-props [] r d n = refl
-run-props (p ∷ ps) r d n = run-props ps r d n
-
--- after the children and the end of their node, the walk stands one level up
-run-kids : (ks : Nodes) (r : List Tok) (d n : ℕ) (a : Bool) → height ks + suc d ≤ 32 → n + count ks ≤ 4096
-    → runT (flatK ks (ended ∷ r)) (suc d) n a ≡ runT r d (n + count ks) false
-unfolding runT
-run-kids none r d n a h c =
-    let q : n ≡ n + 0 = omega arith in
-    ap (λ (x : ℕ). runT r d x false) q
-run-kids (node p nm ps kids rest) r d n a h c =
-    let i1 = run-kids kids (flatK rest (ended ∷ r)) (suc d) (suc n) true (omega arith) (omega arith) in
-    let i2 = run-kids rest r d (suc n + count kids) false (omega arith) (omega arith) in
-    let l1 : suc d < 32 = omega arith in
-    let l2 : n < 4096 = omega arith in
-    let q : suc n + count kids + count rest ≡ n + suc (count kids + count rest) = omega arith in
-    rw (lt-leb _ _ l1, lt-leb _ _ l2)
-    (run-props ps _ (suc (suc d)) (suc n) ∙ i1 ∙ i2 ∙ ap (λ (x : ℕ). runT r d x false) q)
-
--- d nodes are open, n were begun: what is left of each, and then the end
-abbrev Closes : ℕ → ℕ → Bool → List Tok → Type 0
-Closes zero n a ts = ts ≡ fin ∷ []
-Closes (suc d) n a ts = (ps : List Property) × (ks : Nodes) × (r : List Tok) × (ts ≡ flatP ps (flatK ks (ended ∷ r))) × (a ≡ false → ps ≡ []) × (height ks + suc d ≤ 32) × (n + count ks ≤ 4096) × Closes d (n + count ks) false r
+-- with those of document 01
+abbrev pub runT : List Tok → ℕ → ℕ → Bool → Verdict
+runT ts d n a = runL 32 4096 ts d n a
 
 no-broken : {A : Type 0} → Broken ≡ Accepted → A
 no-broken e = never (cc)
 
 -- a test that was accepted went one way
-went-left : (t : Bool) (v : Verdict) → cond t v Broken ≡ Accepted → (t ≡ true) × (v ≡ Accepted)
+pub went-left : (t : Bool) (v : Verdict) → cond t v Broken ≡ Accepted → (t ≡ true) × (v ≡ Accepted)
 went-left true v h = (refl, h)
 went-left false v h = never (cc)
 
-went-right : (t : Bool) (v : Verdict) → cond t Over v ≡ Accepted → (t ≡ false) × (v ≡ Accepted)
+pub went-right : (t : Bool) (v : Verdict) → cond t Over v ≡ Accepted → (t ≡ false) × (v ≡ Accepted)
 went-right true v h = never (cc)
 went-right false v h = (refl, h)
-
--- a node that begins is the first of what is left one level up
-close-begin : (p : ℕ) (nm : List ℕ) (ts : List Tok) (d n : ℕ) (a : Bool) → Closes (suc (suc d)) (suc n) true ts → Closes (suc d) n a (begin p nm ∷ ts)
-close-begin p nm ts d n a i =
-    let j = i .7 in
-    let q : suc n + count (i .1) + count (j .1) ≡ n + suc (count (i .1) + count (j .1)) = omega arith in
-    let hi = i .5 in
-    let hj = j .5 in
-    let cj = j .6 in
-    let e : i .2 ≡ flatK (j .1) (ended ∷ j .2) = j .3 ∙ ap (λ (x : List Property). flatP x (flatK (j .1) (ended ∷ j .2))) (j .4 refl) in (
-      [],
-      node p nm (i .0) (i .1) (j .1),
-      j .2,
-      ap (λ (x : List Tok). begin p nm ∷ x) (i .3 ∙ ap (λ (x : List Tok). flatP (i .0) (flatK (i .1) (ended ∷ x))) e),
-      (λ z. refl),
-      omega arith,
-      omega arith,
-      subst (λ (x : ℕ). Closes d x false (j .2)) q (j .7),
-    )
-
-closes : (ts : List Tok) (d n : ℕ) (a : Bool) → d ≤ 32 → n ≤ 4096 → 0 < n → (d ≡ 0 → a ≡ false) → runT ts d n a ≡ Accepted → Closes d n a ts
-unfolding runT
-closes [] d n a hd hn h0 hf e = no-broken e
-closes (begin p nm ∷ ts) zero n a hd hn h0 hf e =
-    let w = went-left (eqb n 0) _ e in
-    let q : n ≡ 0 = eqb-true _ _ (w .0) in
-    let b : ⊥ = omega arith in absurd b
-closes (begin p nm ∷ ts) (suc d) n a hd hn h0 hf e =
-    let w = went-right (leb 32 (suc d)) _ e in
-    let w2 = went-right (leb 4096 n) _ (w .1) in
-    let l1 : suc d < 32 = leb-false _ _ (w .0) in
-    let l2 : n < 4096 = leb-false _ _ (w2 .0) in
-    let i = closes ts (suc (suc d)) (suc n) true (omega arith) (omega arith) (omega arith) (λ z. let b : ⊥ = omega arith in absurd b) (w2 .1) in
-    close-begin p nm ts d n a i
-closes (ended ∷ ts) zero n a hd hn h0 hf e = no-broken e
-closes (ended ∷ ts) (suc d) n a hd hn h0 hf e =
-    let i = closes ts d n false (omega arith) hn h0 (λ z. refl) e in
-    let q : n ≡ n + 0 = omega arith in
-    ([], none, ts, refl, (λ z. refl), omega arith, omega arith, subst (λ (x : ℕ). Closes d x false ts) q i)
-closes (prop q ∷ ts) zero n a hd hn h0 hf e =
-    let w = went-left a _ e in
-    let f : a ≡ false = hf refl in
-    let g : a ≡ true = w .0 in
-    never (cc)
-closes (prop q ∷ ts) (suc d) n a hd hn h0 hf e =
-    let w = went-left a _ e in
-    let i = closes ts (suc d) n true hd hn h0 (λ z. let b : ⊥ = omega arith in absurd b) (w .1) in
-    (q ∷ i .0, i .1, i .2, ap (λ (x : List Tok). prop q ∷ x) (i .3), (λ z. let g : a ≡ true = w .0 in never (cc)), i .5, i .6, i .7)
-closes (fin ∷ []) zero n a hd hn h0 hf e = refl
-closes (fin ∷ []) (suc d) n a hd hn h0 hf e = no-broken e
-closes (fin ∷ t ∷ ts) d n a hd hn h0 hf e = no-broken e
-closes (bad ∷ ts) d n a hd hn h0 hf e = no-broken e
 
 nil-of-zero : (l : List ℕ) → length l ≡ 0 → l ≡ []
 nil-of-zero [] h = refl
 nil-of-zero (x ∷ l) h = let b : ⊥ = omega arith in absurd b
 
--- what the walk accepts is the tree's tokens
-pub accepted-tree : (ts : List Tok) → runT ts 0 0 false ≡ Accepted
-    → (p : ℕ) × (ps : List Property) × (ks : Nodes) × (ts ≡ flatK (node p [] ps ks none) (fin ∷ [])) × (suc (height ks) ≤ 32) × (suc (count ks) ≤ 4096)
-unfolding runT
-accepted-tree [] e = no-broken e
-accepted-tree (begin p nm ∷ ts) e =
-    let w = went-left (eqb (length nm) 0) _ e in
-    let z = nil-of-zero nm (eqb-true _ _ (w .0)) in
-    let i = closes ts 1 1 true (omega arith) (omega arith) (omega arith) (λ z. let b : ⊥ = omega arith in absurd b) (w .1) in
-    let hi = i .5 in
-    let ci = i .6 in (
-      p,
-      i .0,
-      i .1,
-      ap (λ (x : List ℕ). begin p x ∷ ts) z ∙ ap (λ (x : List Tok). begin p [] ∷ x) (i .3 ∙ ap (λ (x : List Tok). flatP (i .0) (flatK (i .1) (ended ∷ x))) (i .7)),
-      omega arith,
-      omega arith,
-    )
-accepted-tree (ended ∷ ts) e = no-broken e
-accepted-tree (prop q ∷ ts) e = no-broken e
-accepted-tree (fin ∷ []) e = no-broken e
-accepted-tree (fin ∷ t ∷ ts) e = no-broken e
-accepted-tree (bad ∷ ts) e = no-broken e
+module _ (lv nd : ℕ) where
+  -- after the properties, with more allowed, the walk stands as before
+  run-props : (ps : List Property) (r : List Tok) (d n : ℕ) → runL lv nd (flatP ps r) d n true ≡ runL lv nd r d n true
+  unfolding runL
+  run-props [] r d n = refl
+  run-props (p ∷ ps) r d n = run-props ps r d n
 
--- and a tree's tokens are accepted
-pub tree-accepted : (p : ℕ) (ps : List Property) (ks : Nodes) → suc (height ks) ≤ 32 → suc (count ks) ≤ 4096 → runT (flatK (node p [] ps ks none) (fin ∷ [])) 0 0 false ≡ Accepted
-unfolding runT
-tree-accepted p ps ks h c =
-    let n0 : 1 + count ks ≡ 0 → ⊥ = λ q. omega arith in
-    run-props ps _ 1 1 ∙ run-kids ks (fin ∷ []) 0 1 true (omega arith) (omega arith) ∙ rw (ne-eqb _ _ n0)
+  -- after the children and the end of their node, the walk stands one level up
+  run-kids : (ks : Nodes) (r : List Tok) (d n : ℕ) (a : Bool) → height ks + suc d ≤ lv → n + count ks ≤ nd
+      → runL lv nd (flatK ks (ended ∷ r)) (suc d) n a ≡ runL lv nd r d (n + count ks) false
+  unfolding runL
+  run-kids none r d n a h c =
+      let q : n ≡ n + 0 = omega arith in
+      ap (λ (x : ℕ). runL lv nd r d x false) q
+  run-kids (node p nm ps kids rest) r d n a h c =
+      let i1 = run-kids kids (flatK rest (ended ∷ r)) (suc d) (suc n) true (omega arith) (omega arith) in
+      let i2 = run-kids rest r d (suc n + count kids) false (omega arith) (omega arith) in
+      let l1 : suc d < lv = omega arith in
+      let l2 : n < nd = omega arith in
+      let q : suc n + count kids + count rest ≡ n + suc (count kids + count rest) = omega arith in
+      rw (lt-leb _ _ l1, lt-leb _ _ l2)
+      (run-props ps _ (suc (suc d)) (suc n) ∙ i1 ∙ i2 ∙ ap (λ (x : ℕ). runL lv nd r d x false) q)
+
+  -- d nodes are open, n were begun: what is left of each, and then the end
+  abbrev Closes : ℕ → ℕ → Bool → List Tok → Type 0
+  Closes zero n a ts = ts ≡ fin ∷ []
+  Closes (suc d) n a ts = (ps : List Property) × (ks : Nodes) × (r : List Tok) × (ts ≡ flatP ps (flatK ks (ended ∷ r))) × (a ≡ false → ps ≡ []) × (height ks + suc d ≤ lv) × (n + count ks ≤ nd) × Closes d (n + count ks) false r
+
+  -- a node that begins is the first of what is left one level up
+  close-begin : (p : ℕ) (nm : List ℕ) (ts : List Tok) (d n : ℕ) (a : Bool) → Closes (suc (suc d)) (suc n) true ts → Closes (suc d) n a (begin p nm ∷ ts)
+  close-begin p nm ts d n a i =
+      let j = i .7 in
+      let q : suc n + count (i .1) + count (j .1) ≡ n + suc (count (i .1) + count (j .1)) = omega arith in
+      let hi = i .5 in
+      let hj = j .5 in
+      let cj = j .6 in
+      let e : i .2 ≡ flatK (j .1) (ended ∷ j .2) = j .3 ∙ ap (λ (x : List Property). flatP x (flatK (j .1) (ended ∷ j .2))) (j .4 refl) in (
+        [],
+        node p nm (i .0) (i .1) (j .1),
+        j .2,
+        ap (λ (x : List Tok). begin p nm ∷ x) (i .3 ∙ ap (λ (x : List Tok). flatP (i .0) (flatK (i .1) (ended ∷ x))) e),
+        (λ z. refl),
+        omega arith,
+        omega arith,
+        subst (λ (x : ℕ). Closes d x false (j .2)) q (j .7),
+      )
+
+  closes : (ts : List Tok) (d n : ℕ) (a : Bool) → d ≤ lv → n ≤ nd → 0 < n → (d ≡ 0 → a ≡ false) → runL lv nd ts d n a ≡ Accepted → Closes d n a ts
+  unfolding runL
+  closes [] d n a hd hn h0 hf e = no-broken e
+  closes (begin p nm ∷ ts) zero n a hd hn h0 hf e =
+      let w = went-left (eqb n 0) _ e in
+      let q : n ≡ 0 = eqb-true _ _ (w .0) in
+      let b : ⊥ = omega arith in absurd b
+  closes (begin p nm ∷ ts) (suc d) n a hd hn h0 hf e =
+      let w = went-right (leb lv (suc d)) _ e in
+      let w2 = went-right (leb nd n) _ (w .1) in
+      let l1 : suc d < lv = leb-false _ _ (w .0) in
+      let l2 : n < nd = leb-false _ _ (w2 .0) in
+      let i = closes ts (suc (suc d)) (suc n) true (omega arith) (omega arith) (omega arith) (λ z. let b : ⊥ = omega arith in absurd b) (w2 .1) in
+      close-begin p nm ts d n a i
+  closes (ended ∷ ts) zero n a hd hn h0 hf e = no-broken e
+  closes (ended ∷ ts) (suc d) n a hd hn h0 hf e =
+      let i = closes ts d n false (omega arith) hn h0 (λ z. refl) e in
+      let q : n ≡ n + 0 = omega arith in
+      ([], none, ts, refl, (λ z. refl), omega arith, omega arith, subst (λ (x : ℕ). Closes d x false ts) q i)
+  closes (prop q ∷ ts) zero n a hd hn h0 hf e =
+      let w = went-left a _ e in
+      let f : a ≡ false = hf refl in
+      let g : a ≡ true = w .0 in
+      never (cc)
+  closes (prop q ∷ ts) (suc d) n a hd hn h0 hf e =
+      let w = went-left a _ e in
+      let i = closes ts (suc d) n true hd hn h0 (λ z. let b : ⊥ = omega arith in absurd b) (w .1) in
+      (q ∷ i .0, i .1, i .2, ap (λ (x : List Tok). prop q ∷ x) (i .3), (λ z. let g : a ≡ true = w .0 in never (cc)), i .5, i .6, i .7)
+  closes (fin ∷ []) zero n a hd hn h0 hf e = refl
+  closes (fin ∷ []) (suc d) n a hd hn h0 hf e = no-broken e
+  closes (fin ∷ t ∷ ts) d n a hd hn h0 hf e = no-broken e
+  closes (bad ∷ ts) d n a hd hn h0 hf e = no-broken e
+
+  -- what the walk accepts is the tree's tokens
+  pub accepted-tree : 1 ≤ lv → 1 ≤ nd → (ts : List Tok) → runL lv nd ts 0 0 false ≡ Accepted
+      → (p : ℕ) × (ps : List Property) × (ks : Nodes) × (ts ≡ flatK (node p [] ps ks none) (fin ∷ [])) × (suc (height ks) ≤ lv) × (suc (count ks) ≤ nd)
+  unfolding runL
+  accepted-tree hl hn [] e = no-broken e
+  accepted-tree hl hn (begin p nm ∷ ts) e =
+      let w = went-left (eqb (length nm) 0) _ e in
+      let z = nil-of-zero nm (eqb-true _ _ (w .0)) in
+      let i = closes ts 1 1 true (omega arith) (omega arith) (omega arith) (λ z. let b : ⊥ = omega arith in absurd b) (w .1) in
+      let hi = i .5 in
+      let ci = i .6 in (
+        p,
+        i .0,
+        i .1,
+        ap (λ (x : List ℕ). begin p x ∷ ts) z ∙ ap (λ (x : List Tok). begin p [] ∷ x) (i .3 ∙ ap (λ (x : List Tok). flatP (i .0) (flatK (i .1) (ended ∷ x))) (i .7)),
+        omega arith,
+        omega arith,
+      )
+  accepted-tree hl hn (ended ∷ ts) e = no-broken e
+  accepted-tree hl hn (prop q ∷ ts) e = no-broken e
+  accepted-tree hl hn (fin ∷ []) e = no-broken e
+  accepted-tree hl hn (fin ∷ t ∷ ts) e = no-broken e
+  accepted-tree hl hn (bad ∷ ts) e = no-broken e
+
+  -- and a tree's tokens are accepted
+  pub tree-accepted : (p : ℕ) (ps : List Property) (ks : Nodes) → suc (height ks) ≤ lv → suc (count ks) ≤ nd → runL lv nd (flatK (node p [] ps ks none) (fin ∷ [])) 0 0 false ≡ Accepted
+  unfolding runL
+  tree-accepted p ps ks h c =
+      let n0 : 1 + count ks ≡ 0 → ⊥ = λ q. omega arith in
+      run-props ps _ 1 1 ∙ run-kids ks (fin ∷ []) 0 1 true (omega arith) (omega arith) ∙ rw (ne-eqb _ _ n0)
 
 -- ── The walk on bytes is the walk on the tokens that are read from them ──
 
@@ -168,7 +173,7 @@ after-cond false x y k v w p q = q
 
 module _ (b n : List ℕ) (p : ℕ) (k : State → Verdict) (j : ℕ → List Tok) (h : (st : State) → k st ≡ runT (j (st .at)) (st .depth) (st .nodes) (st .props)) where
   step-run : (t : Token) (d c : ℕ) (a : Bool) → Reach p (length b) (length n) t → after (stepOf (state p d c a) t) k ≡ runT (taken b n p t j) d c a
-  unfolding stepOf beginStep runT
+  unfolding stepOf beginStep runL
   step-run Bad d c a m = refl
   step-run (Nop x) d c a m = h (state x d c a)
   step-run (Begin l x) zero c a m =
@@ -185,7 +190,7 @@ module _ (b n : List ℕ) (p : ℕ) (k : State → Verdict) (j : ℕ → List To
   step-run Fin (suc d) c a m = rw (eqb·suc-zero d)
 
 walk-run : (b n : List ℕ) (f : ℕ) (st : State) → walkAt f b n st ≡ runT (lex f b n (st .at)) (st .depth) (st .nodes) (st .props)
-unfolding walkAt lex runT
+unfolding walkAt lex runL
 walk-run b n zero st = refl
 walk-run b n (suc f) st =
     step-run b n (st .at) (λ next. walkAt f b n next) (λ q. lex f b n q) (walk-run b n f) (tokAt b n (st .at)) (st .depth) (st .nodes) (st .props) (reach b n (st .at))

@@ -1,2 +1,5 @@
 pub mod Written
+pub mod Faults
+pub mod Numbers
+pub mod Past
 pub mod Veil

@@ -1,10 +1,11 @@
--- Bytes that differ only inside the values of some properties, and trees that are the same but for those values.
+-- Bytes that differ only inside the values of some properties and in padding, and trees that are the same but for those values.
 use mathlib.Core.Path.{_≡_}
 use mathlib.Core.Logic.{_⊎_}
 use Prim.Native.Nat.{ℕ, _+_, _-_, _≤_, _<_}
 use mathlib.Core.List.{List, [], _∷_}
 use mathlib.Core.Bool.{Bool, true, cond}
 use lib.ListN.{length, getD}
+use Rattle.words.specs.Bytes.{align4}
 use Rattle.fdt.specs.Header.{GoodHeader, off-dt-struct, off-dt-strings, size-dt-struct, size-dt-strings, structureOf, stringsOf}
 use Rattle.fdt.specs.Tree.{Property, Nodes, none, node, Tok, begin, ended, prop, fin, bad, lexAt}
 
@@ -48,10 +49,21 @@ Inside free (prop q ∷ ts) i = ((free (q .at) (q .name) ≡ true) × (q .at + 1
 Inside free (fin ∷ ts) i = Inside free ts i
 Inside free (bad ∷ ts) i = Inside free ts i
 
--- with names in the strings block n, the structure block c is as long as b, and differs from it only in values of free properties of b
+-- the byte at i of the structure block is padding among these tokens: past the zero byte of a node's name or past a property's value, and
+-- before the next multiple of 4
+unfoldable pub Padding : List Tok → ℕ → Type 0
+Padding [] i = ⊥
+Padding (begin p nm ∷ ts) i = ((p + 4 + length nm + 1 ≤ i) × (i < align4 (p + 4 + length nm + 1))) ⊎ Padding ts i
+Padding (ended ∷ ts) i = Padding ts i
+Padding (prop q ∷ ts) i = ((q .at + 12 + length (q .value) ≤ i) × (i < align4 (q .at + 12 + length (q .value)))) ⊎ Padding ts i
+Padding (fin ∷ ts) i = Padding ts i
+Padding (bad ∷ ts) i = Padding ts i
+
+-- with names in the strings block n, the structure block c is as long as b, and differs from it only in values of free properties of b and
+-- in padding of b
 pub record BlockDiffers (free : Free) (n b c : List ℕ) : Type 0 where
   pub long : length b ≡ length c
-  pub bytes : (i : ℕ) → i < length b → (Inside free (lexAt b n 0) i → ⊥) → getD b i 0 ≡ getD c i 0
+  pub bytes : (i : ℕ) → i < length b → (Inside free (lexAt b n 0) i → ⊥) → (Padding (lexAt b n 0) i → ⊥) → getD b i 0 ≡ getD c i 0
 
 -- the byte at i of a whole tree is in the value of a free property; bytes with no good header have no property
 pub record InValue (free : Free) (s : List ℕ) (i : ℕ) : Type 0 where
@@ -59,10 +71,22 @@ pub record InValue (free : Free) (s : List ℕ) (i : ℕ) : Type 0 where
   pub from : off-dt-struct s ≤ i
   pub inside : Inside free (lexAt (structureOf s) (stringsOf s) 0) (i - off-dt-struct s)
 
--- t is as long as s, and differs from it only in values of free properties of s
+-- the byte at i of a whole tree is padding in its structure block; bytes with no good header have none
+pub record InPadding (s : List ℕ) (i : ℕ) : Type 0 where
+  pub header : GoodHeader s
+  pub from : off-dt-struct s ≤ i
+  pub upto : i < off-dt-struct s + size-dt-struct s
+  pub inside : Padding (lexAt (structureOf s) (stringsOf s) 0) (i - off-dt-struct s)
+
+-- t is as long as s, and differs from it only in values of free properties of s and in padding of s
 pub record Differs (free : Free) (s t : List ℕ) : Type 0 where
   pub long : length s ≡ length t
-  pub bytes : (i : ℕ) → i < length s → (InValue free s i → ⊥) → getD s i 0 ≡ getD t i 0
+  pub bytes : (i : ℕ) → i < length s → (InValue free s i → ⊥) → (InPadding s i → ⊥) → getD s i 0 ≡ getD t i 0
+
+-- t is as long as s, and differs from it only in padding of s
+pub record PaddingDiffers (s t : List ℕ) : Type 0 where
+  pub long : length s ≡ length t
+  pub bytes : (i : ℕ) → i < length s → (InPadding s i → ⊥) → getD s i 0 ≡ getD t i 0
 
 -- the strings block does not overlap the structure block
 abbrev pub Apart : List ℕ → Type 0

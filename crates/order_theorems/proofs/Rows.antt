@@ -30,7 +30,7 @@ use Rattle.sheet.specs.Sheet.{mapSheet}
 use Rattle.fdt.specs.declared.Opened.{Opened}
 use Rattle.fdt.specs.declared.Opened.the-variants.{NoTree, Tree, BadHeader as NoHeader, OverLimit as Over, BadStructure as NoStructure}
 use Rattle.fdt.specs.Opening.{openedOf}
-use Rattle.grammar.proofs.OpeningLaws.{opened-blocks}
+use Rattle.grammar.proofs.OpeningLaws.{bad-header-exactly, over-exactly, bad-structure-exactly, opened-exactly, opened-blocks}
 use Rattle.claims.specs.declared.Judged.{Judged}
 use Rattle.claims.specs.Claims.{isVirt}
 use Rattle.claims.specs.Judging.{badReg, badRanges, judgedOf}
@@ -204,22 +204,30 @@ module _ (p : ℕ) (s l : List ℕ) where
       P j = UnderTree (judgedVerdict j)
 
   -- 4, 6 and 5
+  module _ (x : Opened) (e : openedOf (fileTree s) ≡ x) where
+    -- the rows that another answer leaves out
+    no-4 : (x ≡ NoHeader → ⊥) → Clear 2 → Clear 3
+    no-4 f c = next BadHeader c (λ g w. f (sym e ∙ bad-header-exactly (fileTree s) .1 w))
+
+    no-6 : (x ≡ Over → ⊥) → Clear 3 → Clear 4
+    no-6 f c = next OverLimit c (λ g w. f (sym e ∙ over-exactly (fileTree s) .1 w))
+
+    no-5 : (x ≡ NoStructure → ⊥) → Clear 4 → Clear 5
+    no-5 f c = next BadStructure c (λ g w. f (sym e ∙ bad-structure-exactly (fileTree s) .1 w))
+
   by-opening : Kinds (claims (listIn s o)) → Clear 2 → (x : Opened) → openedOf (fileTree s) ≡ x → UnderTree (openedVerdict (fileTree s) (o .arm) x)
-  by-opening k c2 NoHeader e = due BadHeader c2 (λ g. e)
-  by-opening k c2 Over e = due OverLimit (next BadHeader c2 (λ g w. never (cc))) (λ g. e)
+  by-opening k c2 NoHeader e = due BadHeader c2 (λ g. bad-header-exactly (fileTree s) .0 e)
+  by-opening k c2 Over e = due OverLimit (no-4 Over e (λ h. never (cc)) c2) (λ g. over-exactly (fileTree s) .0 e)
   by-opening k c2 NoStructure e =
-      let c3 : Clear 3 = next BadHeader c2 (λ g w. never (cc)) in
-      due BadStructure (next OverLimit c3 (λ g w. never (cc))) (λ g. e)
+      due BadStructure (no-6 NoStructure e (λ h. never (cc)) (no-4 NoStructure e (λ h. never (cc)) c2)) (λ g. bad-structure-exactly (fileTree s) .0 e)
   by-opening k c2 NoTree e =
-      let c3 : Clear 3 = next BadHeader c2 (λ g w. never (cc)) in
-      let c4 : Clear 4 = next OverLimit c3 (λ g w. never (cc)) in
-      let c5 : Clear 5 = next BadStructure c4 (λ g w. never (cc)) in
-      let c6 : Clear 6 = next UnreadableReg c5 (λ g w. never (cc)) in
-      by-map k (next UnreadableRanges c6 (λ g w. never (cc)))
+      let c5 = no-5 NoTree e (λ h. never (cc)) (no-6 NoTree e (λ h. never (cc)) (no-4 NoTree e (λ h. never (cc)) c2)) in
+      let no-tree : HasTree s → ⊥ = λ w. let h = opened-exactly (fileTree s) .1 w in never (cc) in
+      let c6 : Clear 6 = next UnreadableReg c5 (λ g w. no-tree (w .0)) in
+      by-map k (next UnreadableRanges c6 (λ g w. no-tree (w .0)))
   by-opening k c2 (Tree b) e =
-      let c3 : Clear 3 = next BadHeader c2 (λ g w. never (cc)) in
-      let c4 : Clear 4 = next OverLimit c3 (λ g w. never (cc)) in
-      by-judging k (e ∙ ap Tree (opened-blocks (fileTree s) b e)) (next BadStructure c4 (λ g w. never (cc)))
+      by-judging k (opened-exactly (fileTree s) .0 (e ∙ ap Tree (opened-blocks (fileTree s) b e)))
+      (no-5 (Tree b) e (λ h. never (cc)) (no-6 (Tree b) e (λ h. never (cc)) (no-4 (Tree b) e (λ h. never (cc)) c2)))
 
   -- 1
   by-list : Clear 1 → Under (verdictOf p s o)

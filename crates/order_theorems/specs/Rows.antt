@@ -13,10 +13,9 @@ use Rattle.runs.specs.Refusals.{Overflows}
 use Rattle.areas.specs.Interval.{Interval}
 use Rattle.areas.specs.Table.{slotsIn}
 use Rattle.demand3.specs.Rule.{areasAfter}
-use Rattle.fdt.specs.declared.Opened.the-variants.{Tree, BadHeader as NoHeader, OverLimit as Over, BadStructure as NoStructure}
 use Rattle.fdt.specs.Header.{structureOf, stringsOf}
 use Rattle.fdt.specs.Tree.{Nodes, treeOf}
-use Rattle.fdt.specs.Opening.{blocksOf, openedOf}
+use Rattle.grammar.specs.Numbers.{HeaderBroken, OverLimits, StructureBroken, Opens}
 use Rattle.claims.specs.Claims.{isVirt}
 use Rattle.claims.specs.Judging.{badReg, badRanges}
 use Rattle.order.specs.Layout.{GoodOrder, orderIn}
@@ -51,7 +50,7 @@ abbrev pub fileRoot : List ℕ → Nodes
 fileRoot s = treeOf (structureOf (fileTree s)) (stringsOf (fileTree s))
 
 abbrev pub HasTree : List ℕ → Type 0
-HasTree s = openedOf (fileTree s) ≡ Tree (blocksOf (fileTree s))
+HasTree s = Opens (fileTree s)
 
 -- what each row says
 abbrev pub Row : ℕ → List ℕ → List ℕ → Refusal → Type 0
@@ -60,9 +59,9 @@ Row p s l BadOrder = GoodOrder s → ⊥
 -- 1: "a kind is none of the seven, size 0 included"
 Row p s l UnknownKind = Some (λ c. IsKind (c .kind) → ⊥) (claims (listIn s (orderIn s)))
 -- 4: "tree header broken"; 6: "tree over a size, level or node limit"; 5: "tree structure broken"
-Row p s l BadHeader = openedOf (fileTree s) ≡ NoHeader
-Row p s l OverLimit = openedOf (fileTree s) ≡ Over
-Row p s l BadStructure = openedOf (fileTree s) ≡ NoStructure
+Row p s l BadHeader = HeaderBroken (fileTree s)
+Row p s l OverLimit = OverLimits (fileTree s)
+Row p s l BadStructure = StructureBroken (fileTree s)
 -- 7: "a counted reserved child's nonempty `reg` is unreadable"
 Row p s l UnreadableReg = HasTree s × (badReg (fileRoot s) ≡ true)
 -- 8: "a readable /soc entry meets an unreadable `ranges`", where /soc is read at all

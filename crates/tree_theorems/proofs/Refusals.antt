@@ -23,7 +23,8 @@ use Rattle.fdt.specs.declared.Opened.the-variants.{NoTree, Tree, BadHeader as N
 use Rattle.fdt.specs.Header.{structureOf, stringsOf}
 use Rattle.fdt.specs.Tree.{Property, Nodes, none, node, treeOf}
 use Rattle.fdt.specs.Opening.{blocksOf, openedOf}
-use Rattle.grammar.proofs.OpeningLaws.{opened-blocks}
+use Rattle.grammar.specs.Numbers.{HeaderBroken, OverLimits, StructureBroken}
+use Rattle.grammar.proofs.OpeningLaws.{bad-header-exactly, over-exactly as opened-over, bad-structure-exactly, opened-blocks}
 use Rattle.reservations.specs.Reservations.{blockIn, entriesOf}
 use Rattle.claims.specs.declared.Judged.{Judged}
 use Rattle.claims.specs.declared.Judged.the-variants.{Sound, UnreadableReg as NoReg, UnreadableRanges as NoRanges}
@@ -160,14 +161,20 @@ module _ (p : ℕ) (m : MemoryMap) (s : List ℕ) (arm : Bool) where
   answer r = r .answer
 
   -- 4, 6 and 5: as opening says
-  pub header-exactly : (treeRegistered p m s arm .answer ≡ BadHeader) ↔ (openedOf s ≡ NoHeader)
-  header-exactly = (λ e. says-of BadHeader e .1, λ e. ap answer (opened NoHeader e))
+  pub header-exactly : (treeRegistered p m s arm .answer ≡ BadHeader) ↔ HeaderBroken s
+  header-exactly =
+      let x = bad-header-exactly s in
+      (λ e. x .0 (says-of BadHeader e .1), λ h. ap answer (opened NoHeader (x .1 h)))
 
-  pub over-exactly : (treeRegistered p m s arm .answer ≡ OverLimit) ↔ (openedOf s ≡ Over)
-  over-exactly = (λ e. says-of OverLimit e .1, λ e. ap answer (opened Over e))
+  pub over-exactly : (treeRegistered p m s arm .answer ≡ OverLimit) ↔ OverLimits s
+  over-exactly =
+      let x = opened-over s in
+      (λ e. x .0 (says-of OverLimit e .1), λ h. ap answer (opened Over (x .1 h)))
 
-  pub structure-exactly : (treeRegistered p m s arm .answer ≡ BadStructure) ↔ (openedOf s ≡ NoStructure)
-  structure-exactly = (λ e. says-of BadStructure e .1, λ e. ap answer (opened NoStructure e))
+  pub structure-exactly : (treeRegistered p m s arm .answer ≡ BadStructure) ↔ StructureBroken s
+  structure-exactly =
+      let x = bad-structure-exactly s in
+      (λ e. x .0 (says-of BadStructure e .1), λ h. ap answer (opened NoStructure (x .1 h)))
 
   -- 7: of an opened tree, before all else
   pub reg-exactly : (treeRegistered p m s arm .answer ≡ UnreadableReg) ↔ ((openedOf s ≡ Tree (blocksOf s)) × (badReg tree ≡ true))

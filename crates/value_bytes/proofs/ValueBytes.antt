@@ -1,11 +1,11 @@
 -- Document 01: "Where the strings block does not overlap the structure block, two trees that differ only in value bytes of properties other
--- than [the named ones] and those in /aliases give equal claims or the same refusal." From the laws on the veiled tree (VeilClaims), and
+-- than [the named ones] and those in /aliases give equal claims or the same refusal." And "Padding values don't matter." From the laws on the veiled tree (VeilClaims), and
 -- from VeilLaws: both are opened alike, and their veiled trees are equal. Assumes nothing.
 use mathlib.Core.Path.{_≡_, refl, sym, _∙_, ap}
 use Prim.Native.Nat.{ℕ, _+_, _-_, _≤_, _<_}
 use native.Mathlib.Omega.{arith}
 use mathlib.Core.Bool.{Bool, true, false}
-use mathlib.Core.List.{List}
+use mathlib.Core.List.{List, [], _∷_}
 use lib.ListN.{length}
 use lib.Seq.{ext-getD}
 use lib.Dec.{leb}
@@ -17,17 +17,17 @@ use Rattle.fdt.specs.declared.Blocks.{Blocks}
 use Rattle.fdt.specs.declared.Opened.{Opened}
 use Rattle.fdt.specs.declared.Opened.the-variants.{NoTree, Tree, BadHeader, OverLimit, BadStructure}
 use Rattle.fdt.specs.Header.{off-dt-struct, structureOf, stringsOf}
-use Rattle.fdt.specs.Tree.{Nodes, treeOf}
+use Rattle.fdt.specs.Tree.{Property, Nodes, treeOf}
 use Rattle.fdt.specs.Opening.{blocksOf, openedOf}
-use Rattle.grammar.specs.Veil.{Free, veilK, Differs, Apart}
+use Rattle.grammar.specs.Veil.{Free, veilK, Differs, PaddingDiffers, Apart}
 use Rattle.grammar.proofs.OpeningLaws.{opened-blocks}
-use Rattle.grammar.proofs.VeilLaws.{same-opened, same-opened-tree}
+use Rattle.grammar.proofs.VeilLaws.{unfree, only-padding, same-opened, same-opened-tree}
 use Rattle.reservations.specs.Reservations.{blockIn, entriesOf}
 use Rattle.claims.specs.Claims.{claimsOf}
 use Rattle.claims.specs.Judging.{judgedOf}
 use Rattle.dtb.specs.declared.TreeRegistered.{TreeRegistered}
 use Rattle.dtb.specs.Call.{openedCall, treeRegistered}
-use Rattle.value_bytes.specs.Unread.{Unread}
+use Rattle.value_bytes.specs.Unread.{AllKept, no-property, kept, Unread}
 use Rattle.value_bytes.proofs.VeilShape.{unread-alike}
 use Rattle.value_bytes.proofs.VeilClaims.{same-judged, same-claims}
 
@@ -51,7 +51,7 @@ module _ (free : Free) (s u : List ℕ) (d : Differs free s u) where
           ext-getD 0 _ _ (long ∙ sym (part-length u at n also)) (λ i q.
           let in-part : i < n = omega arith in
           let front = before i in-part in
-          part-byte s at n fits i in-part ∙ d .bytes (at + i) (omega arith) (λ v. let f = v .from in omega arith)
+          part-byte s at n fits i in-part ∙ d .bytes (at + i) (omega arith) (λ v. let f = v .from in omega arith) (λ v. let f = v .from in omega arith)
           ∙ sym (part-byte u at n also i in-part))
 
   -- the reservation block ends where the structure block begins
@@ -102,3 +102,27 @@ module _ (free : Free) (s u : List ℕ) (d : Differs free s u) (apart : Apart s)
   -- so the number that a caller gets is the same
   pub same-answer : (p : ℕ) (m : MemoryMap) (arm : Bool) → treeRegistered p m s arm .answer ≡ treeRegistered p m u arm .answer
   same-answer p m arm = ap (λ (r : TreeRegistered). r .answer) (same-call p m arm)
+
+-- ── PADDING: no value is free, so that none is read ──
+all-kept : (ps : List Property) → AllKept unfree ps
+all-kept [] = no-property
+all-kept (p ∷ ps) = kept refl (all-kept ps)
+
+unread-none : (t : Nodes) → Unread unfree t
+unread-none t =
+    record {
+      address-cells = λ q. refl;
+      size-cells = λ q. refl;
+      ranges = λ q. refl;
+      reg = λ q. refl;
+      status = λ q. refl;
+      size = λ q. refl;
+      alloc-ranges = λ q. refl;
+      model = λ q. refl;
+      stdout-path = λ q. refl;
+      aliases = all-kept _;
+    }
+
+-- the whole call: the same map, and the same answer
+pub padding-call : (s u : List ℕ) → PaddingDiffers s u → Apart s → (p : ℕ) (m : MemoryMap) (arm : Bool) → treeRegistered p m s arm ≡ treeRegistered p m u arm
+padding-call s u d apart = same-call unfree s u (only-padding s u d) apart (unread-none _)
