@@ -6,10 +6,12 @@ use mathlib.Core.Logic.{_↔_, _⊎_, inl, inr, ⊎-elim}
 use Prim.Native.Nat.{ℕ, _≤_, _<_}
 use native.Mathlib.Omega.{arith}
 use mathlib.Core.List.{List, _++_}
-use mathlib.Core.Bool.{Bool, true, false}
+use mathlib.Core.Bool.{Bool, true, false, cond}
 use lib.ListN.{length}
 use lib.Dec.{leb, eqb}
 use borrow.Author.Tests.{eqb-true, eqb-false, leb-true, leb-false}
+use Rattle.numbers.specs.Number.{Names}
+use Rattle.numbers.proofs.Given.{given}
 use Rattle.fdt.specs.Header.{totalsize, GoodHeader, goodHeader, structureOf, stringsOf}
 use Rattle.fdt.specs.Walk.{walked}
 use Rattle.fdt.specs.Tree.{Property, Nodes, Tok}
@@ -27,6 +29,20 @@ use Rattle.grammar.specs.Faults.{Begins, BeginsWithin, Upto, here}
 use Rattle.grammar.specs.Numbers.{HeaderBroken, OverLimits, StructureBroken, Opens}
 use Rattle.grammar.proofs.GrammarLaws.{accepted-exactly}
 use Rattle.grammar.proofs.FaultLaws.{broken-exactly, exceeds-exactly, grammar-over, no-grammar-broken}
+
+-- 4, 5 and 6 name their cases
+opened-names : Names openedNumber
+opened-names = record { back = refusalOf; named = each }
+  where
+    refusalOf : ℕ → Opened
+    refusalOf n = cond (eqb n 4) BadHeader (cond (eqb n 5) BadStructure OverLimit)
+
+    each : (o : Opened) → (openedNumber o ≡ 0) ⊎ (refusalOf (openedNumber o) ≡ o)
+    each NoTree = inl refl
+    each (Tree k) = inl refl
+    each BadHeader = inr refl
+    each OverLimit = inr refl
+    each BadStructure = inr refl
 
 module _ (s : List ℕ) where
   -- what holds where this is the answer
@@ -97,48 +113,26 @@ module _ (s : List ℕ) where
   opened-blocks k e = says-of (Tree k) e .3
 
   -- THE NUMBERS: "Given exactly when"
-  number-of : (o : Opened) → openedOf s ≡ o → openedNumber (openedOf s) ≡ openedNumber o
-  number-of o e = ap openedNumber e
 
-  is-4 : (o : Opened) → openedNumber o ≡ 4 → o ≡ BadHeader
-  is-4 NoTree h = never (cc)
-  is-4 (Tree k) h = never (cc)
-  is-4 BadHeader h = refl
-  is-4 OverLimit h = never (cc)
-  is-4 BadStructure h = never (cc)
-
-  is-5 : (o : Opened) → openedNumber o ≡ 5 → o ≡ BadStructure
-  is-5 NoTree h = never (cc)
-  is-5 (Tree k) h = never (cc)
-  is-5 BadHeader h = never (cc)
-  is-5 OverLimit h = never (cc)
-  is-5 BadStructure h = refl
-
-  is-6 : (o : Opened) → openedNumber o ≡ 6 → o ≡ OverLimit
-  is-6 NoTree h = never (cc)
-  is-6 (Tree k) h = never (cc)
-  is-6 BadHeader h = never (cc)
-  is-6 OverLimit h = refl
-  is-6 BadStructure h = never (cc)
-
-  is-0 : (o : Opened) → openedOf s ≡ o → openedNumber o ≡ 0 → (length s ≡ 0) ⊎ Opens s
-  is-0 NoTree e h = inl (no-tree-exactly .0 e)
-  is-0 (Tree k) e h = inr (opened-exactly .0 (e ∙ ap Tree (opened-blocks k e)))
-  is-0 BadHeader e h = never (cc)
-  is-0 OverLimit e h = never (cc)
-  is-0 BadStructure e h = never (cc)
-
+  -- none of them: no tree, or one that is opened
   pub number-0 : (openedNumber (openedOf s) ≡ 0) ↔ ((length s ≡ 0) ⊎ Opens s)
-  number-0 = (is-0 (openedOf s) refl, λ h. ⊎-elim (λ e. number-of _ (no-tree-exactly .1 e)) (λ w. number-of _ (opened-exactly .1 w)) h)
+  number-0 = (there (openedOf s) refl, λ h. ⊎-elim (λ e. ap openedNumber (no-tree-exactly .1 e)) (λ w. ap openedNumber (opened-exactly .1 w)) h)
+    where
+      there : (o : Opened) → openedOf s ≡ o → openedNumber o ≡ 0 → (length s ≡ 0) ⊎ Opens s
+      there NoTree e h = inl (no-tree-exactly .0 e)
+      there (Tree k) e h = inr (opened-exactly .0 (e ∙ ap Tree (opened-blocks k e)))
+      there BadHeader e h = never (cc)
+      there OverLimit e h = never (cc)
+      there BadStructure e h = never (cc)
 
   pub number-4 : (openedNumber (openedOf s) ≡ 4) ↔ HeaderBroken s
-  number-4 = ((λ h. bad-header-exactly .0 (is-4 (openedOf s) h)), λ h. number-of _ (bad-header-exactly .1 h))
+  number-4 = given opened-names BadHeader (λ z. omega arith) bad-header-exactly
 
   pub number-5 : (openedNumber (openedOf s) ≡ 5) ↔ StructureBroken s
-  number-5 = ((λ h. bad-structure-exactly .0 (is-5 (openedOf s) h)), λ h. number-of _ (bad-structure-exactly .1 h))
+  number-5 = given opened-names BadStructure (λ z. omega arith) bad-structure-exactly
 
   pub number-6 : (openedNumber (openedOf s) ≡ 6) ↔ OverLimits s
-  number-6 = ((λ h. over-exactly .0 (is-6 (openedOf s) h)), λ h. number-of _ (over-exactly .1 h))
+  number-6 = given opened-names OverLimit (λ z. omega arith) over-exactly
 
   -- a tree of the Specification that is not within the limits gives 6, and never 5
   pub grammar-6 : GoodHeader s → (root : ℕ) (ps : List Property) (kids : Nodes) → Block (structureOf s) (stringsOf s) root ps kids

@@ -1,7 +1,7 @@
 -- The test of an order file says whether it keeps the layout, and it is refused exactly when it does not; and in one that does, the list
 -- and the tree are parts of its bytes. Assumes nothing.
-use mathlib.Core.Path.{_≡_, refl, sym, _∙_}
-use mathlib.Core.Logic.{_↔_}
+use mathlib.Core.Path.{_≡_, refl, sym, _∙_, ap}
+use mathlib.Core.Logic.{_↔_, _⊎_, inl, inr}
 use Prim.Native.Nat.{ℕ, _+_, _*_, _≤_, _<_}
 use native.Mathlib.Omega.{arith}
 use mathlib.Core.List.{List}
@@ -9,11 +9,22 @@ use mathlib.Core.Bool.{Bool, true, false, not, _&&_, _||_}
 use lib.ListN.{length, getD}
 use lib.Dec.{leb, eqb, ltb}
 use borrow.Author.Tests.{eq-eqb, le-leb, lt-ltb, leb-true, eqb-true, ltb-true, not-true, not-false}
+use Rattle.numbers.specs.Number.{Names}
+use Rattle.numbers.proofs.Given.{given}
 use Rattle.words.specs.Bytes.{partOf}
 use Rattle.words.specs.Little.{half, quarter, eight}
 use Rattle.words.proofs.BytesLaws.{never, part-length}
-use Rattle.order.specs.Layout.{flags, lowFlag, highFlag, listCount, treeLength, GoodOrder, goodOrder, orderIn, orderOf}
+use Rattle.order.specs.Layout.{flags, lowFlag, highFlag, listCount, treeLength, GoodOrder, goodOrder, orderIn, orderNumber, orderOf}
+use Rattle.order.specs.declared.OrderRead.{OrderRead}
 use Rattle.order.specs.declared.OrderRead.the-variants.{Layout, BadOrder}
+
+-- 9 names its case
+order-names : Names orderNumber
+order-names = record { back = λ n. BadOrder; named = each }
+  where
+    each : (o : OrderRead) → (orderNumber o ≡ 0) ⊎ (BadOrder ≡ o)
+    each (Layout o) = inl refl
+    each BadOrder = inr refl
 
 both : (x y : Bool) → (x && y) ≡ true → (x ≡ true) × (y ≡ true)
 both true y h = (refl, h)
@@ -100,15 +111,26 @@ module _ (s : List ℕ) where
   unfolding orderOf
   order-good e = rw e
 
-  -- REFUSED EXACTLY WHEN
-  pub bad-exactly : (orderOf s ≡ BadOrder) ↔ (GoodOrder s → ⊥)
-  bad-exactly = (to-bad, λ n. order-bad (sym (bad-order n)))
+  bad-case : (orderOf s ≡ BadOrder) ↔ (GoodOrder s → ⊥)
+  bad-case = (to-bad, λ n. order-bad (sym (bad-order n)))
     where
       to-bad : orderOf s ≡ BadOrder → GoodOrder s → ⊥
       to-bad h g =
           let e = order-good (from-good g) in
           let z : _≡_ {A = ℕ} 0 1 = cc in
           omega arith
+
+  -- 9: "order file breaks its layout, or is longer than 65,536"
+  pub number-9 : (orderNumber (orderOf s) ≡ 9) ↔ (GoodOrder s → ⊥)
+  number-9 = given order-names BadOrder (λ z. omega arith) bad-case
+
+  -- "0 is done"
+  pub number-0 : (orderNumber (orderOf s) ≡ 0) ↔ GoodOrder s
+  number-0 = (λ z. to (goodOrder s) refl z, λ g. ap orderNumber (order-good (from-good g)))
+    where
+      to : (t : Bool) → goodOrder s ≡ t → orderNumber (orderOf s) ≡ 0 → GoodOrder s
+      to true e z = good-order .0 e
+      to false e z = let w = ap orderNumber (order-bad e) in absurd (omega arith)
 
   -- THE LIST AND THE TREE LIE INSIDE
   pub order-parts : GoodOrder s → (length (partOf s 112 (listCount s * 24)) ≡ listCount s * 24) × (length (partOf s (112 + listCount s * 24) (treeLength s)) ≡ treeLength s)

@@ -93,6 +93,11 @@ orderIn s =
       tree = record { at = 112 + listCount s * 24; len = treeLength s };
     }
 
+-- "Numbers a caller gets back"
+abbrev pub orderNumber : OrderRead → ℕ
+orderNumber (Layout o) = 0
+orderNumber BadOrder = 9
+
 -- 9: "order file breaks its layout, or is longer than 65,536"
 unfoldable pub orderOf : List ℕ → OrderRead
 orderOf s = cond (goodOrder s) (Layout (orderIn s)) BadOrder

@@ -5,7 +5,7 @@ ghost use lib.ListN.{length};
 ghost use lib.Dec.{eqb};
 ghost use mathlib.Core.Bool.{_||_};
 ghost use Rattle.words.specs.Little.{eight};
-ghost use Rattle.order.specs.Layout.{limitBy, pairAt, goodOrder, orderIn, orderOf};
+ghost use Rattle.order.specs.Layout.{limitBy, pairAt, goodOrder, orderIn, orderNumber, orderOf};
 use areas::Limit;
 use cells::Region;
 use fdt::Block;
@@ -28,6 +28,17 @@ pub struct Order {
 pub enum OrderRead {
     Layout(Order),
     BadOrder,
+}
+
+impl OrderRead {
+    pub fn number(self) -> u8
+        ensures { λ r. ⌜ r ≡ orderNumber self ⌝ }
+    {
+        match self {
+            OrderRead::Layout(_) => 0,
+            OrderRead::BadOrder => 9,
+        }
+    }
 }
 
 // Whether the limit at a place is flagged, or else 0.

@@ -1,7 +1,7 @@
 -- The table of document 01, "Numbers a caller gets back", over whole order files: every number is given exactly when its row says so and
 -- no row above it does; a refused build writes nothing, and a finished one its areas. Assumes nothing.
 use mathlib.Core.Path.{_≡_, refl, sym, _∙_, ap, subst}
-use mathlib.Core.Logic.{_↔_, ⊎-elim}
+use mathlib.Core.Logic.{_↔_, _⊎_, inl, inr, ⊎-elim}
 use mathlib.Core.Bool.{Bool, true, false, cond}
 use mathlib.Core.List.{List, _++_, List·Memᴰ·append-cases, List·Memᴰ·not-nil}
 use Prim.Native.Nat.{ℕ, _+_, _≤_, _<_}
@@ -9,7 +9,9 @@ use native.Mathlib.Omega.{arith}
 use lib.Dec.{eqb}
 use lib.ListN.{length, drop}
 use borrow.Author.Tests.{leb-true, leb-false}
-use Rattle.words.proofs.BytesLaws.{cond-elim, never}
+use Rattle.numbers.specs.Number.{Names}
+use Rattle.numbers.proofs.Given.{given}
+use Rattle.words.proofs.BytesLaws.{never}
 use Rattle.page.specs.Round.{Page}
 use Rattle.entry.specs.Kind.{kindOf}
 use Rattle.memory.specs.declared.Answer.{Answer}
@@ -19,7 +21,8 @@ use Rattle.memory.specs.Map.{blank}
 use Rattle.memory.specs.Run.{isDone}
 use Rattle.memory.proofs.MapLaws.{blank-made}
 use Rattle.bootloader.specs.List.{allOf, claims}
-use Rattle.runs.proofs.Refusals.{Kinds, judged, run-known, run-full}
+use Rattle.runs.specs.Refusals.{Kinds}
+use Rattle.runs.proofs.Refusals.{judged, run-known, run-full}
 use Rattle.areas.specs.Table.{flat, slotsIn, fits, tableOf}
 use Rattle.areas.proofs.Lists.{le-or-lt}
 use Rattle.areas.proofs.MadeLaws.{areasOf-few}
@@ -32,12 +35,13 @@ use Rattle.fdt.specs.declared.Opened.the-variants.{NoTree, Tree, BadHeader as N
 use Rattle.fdt.specs.Opening.{openedOf}
 use Rattle.grammar.proofs.OpeningLaws.{bad-header-exactly, over-exactly, bad-structure-exactly, opened-exactly, opened-blocks}
 use Rattle.claims.specs.declared.Judged.{Judged}
-use Rattle.claims.specs.Claims.{isVirt}
-use Rattle.claims.specs.Judging.{badReg, badRanges, judgedOf}
+use Rattle.claims.specs.declared.Judged.the-variants.{Sound, UnreadableReg as NoReg, UnreadableRanges as NoRanges}
+use Rattle.claims.specs.Judging.{judgedOf}
 use Rattle.order.specs.declared.Order.{Order}
-use Rattle.order.specs.Layout.{goodOrder, orderIn, orderOf}
+use Rattle.order.specs.Layout.{GoodOrder, goodOrder, orderIn, orderOf}
 use Rattle.order.proofs.OrderLaws.{good-order, order-bad, order-good}
 use Rattle.tree_theorems.proofs.ClaimKinds.{claims-known}
+use Rattle.tree_theorems.proofs.Judging.{judged-7, judged-8, judged-0}
 use Rattle.startup.specs.declared.Refusal.{Refusal}
 use Rattle.startup.specs.declared.Refusal.the-variants.{BadOrder, UnknownKind, BadHeader, OverLimit, BadStructure, UnreadableReg, UnreadableRanges, MapFull, TooManyAreas}
 use Rattle.startup.specs.declared.Verdict.{Verdict}
@@ -45,9 +49,9 @@ use Rattle.startup.specs.declared.Verdict.the-variants.{Accepted as Taken, Reje
 use Rattle.startup.specs.declared.Report.{Report}
 use Rattle.startup.specs.declared.Report.the-variants.{Done, Refused}
 use Rattle.startup.specs.Sources.{listIn, claimsBy, treeClaims, pairClaims, registrations}
-use Rattle.startup.specs.Verdict.{firstOf, listVerdict, judgedVerdict, openedVerdict, treeVerdict, mapVerdict, runOf, verdictOf}
-use Rattle.startup.specs.Report.{finished, verdictReport, verdictSlots, readReport, readSlots, reportOf, slotsAfter}
-use Rattle.order_theorems.specs.Rows.{rank, fileClaims, fileAreas, fileTree, fileRoot, HasTree, Row, Due}
+use Rattle.startup.specs.Verdict.{refusalNumber, verdictNumber, firstOf, listVerdict, judgedVerdict, openedVerdict, treeVerdict, mapVerdict, runOf, verdictOf}
+use Rattle.startup.specs.Report.{reportNumber, finished, verdictReport, verdictSlots, readReport, readSlots, reportOf, slotsAfter}
+use Rattle.order_theorems.specs.Rows.{rank, fileClaims, fileAreas, fileTree, fileRoot, HasTree, Row, Due, Table}
 
 -- ── Ranks ──
 
@@ -77,6 +81,39 @@ rank-of TooManyAreas = (refl, omega arith)
 
 rank-one : (q r : Refusal) → rank q ≡ rank r → q ≡ r
 rank-one q r e = sym (rank-of q .0) ∙ ap ranked e ∙ rank-of r .0
+
+-- ── Numbers ──
+
+-- the refusal of a number
+abbrev numbered : ℕ → Refusal
+numbered n =
+    cond (eqb n 9) BadOrder
+    (cond (eqb n 1) UnknownKind
+    (cond (eqb n 4) BadHeader
+    (cond (eqb n 6) OverLimit
+    (cond (eqb n 5) BadStructure
+    (cond (eqb n 7) UnreadableReg
+    (cond (eqb n 8) UnreadableRanges
+    (cond (eqb n 2) MapFull TooManyAreas)))))))
+
+-- every refusal is that of its number, which is not 0
+number-of : (r : Refusal) → (numbered (refusalNumber r) ≡ r) × (refusalNumber r ≡ 0 → ⊥)
+number-of BadOrder = (refl, λ z. omega arith)
+number-of UnknownKind = (refl, λ z. omega arith)
+number-of BadHeader = (refl, λ z. omega arith)
+number-of OverLimit = (refl, λ z. omega arith)
+number-of BadStructure = (refl, λ z. omega arith)
+number-of UnreadableReg = (refl, λ z. omega arith)
+number-of UnreadableRanges = (refl, λ z. omega arith)
+number-of MapFull = (refl, λ z. omega arith)
+number-of TooManyAreas = (refl, λ z. omega arith)
+
+report-names : Names reportNumber
+report-names = record { back = λ n. Refused (numbered n); named = each }
+  where
+    each : (x : Report) → (reportNumber x ≡ 0) ⊎ (Refused (numbered (reportNumber x)) ≡ x)
+    each (Done n sheet) = inl refl
+    each (Refused r) = inr (ap Refused (number-of r .0))
 
 -- ── The kinds of a file's registrations ──
 opened-known : (t : List ℕ) (arm : Bool) (x : Opened) → Kinds (claimsBy t arm x)
@@ -187,21 +224,16 @@ module _ (p : ℕ) (s l : List ℕ) where
 
   -- 7 and 8
   by-judging : Kinds (claims (listIn s o)) → HasTree s → Clear 5 → UnderTree (judgedVerdict (judgedOf (o .arm) (fileRoot s)))
-  unfolding judgedOf
-  by-judging k t c5 =
-      cond-elim P (badReg (fileRoot s)) _ _
-      (λ r. due UnreadableReg c5 (λ g. (t, r)))
-      (λ r.
-      let c6 : Clear 6 = next UnreadableReg c5 (λ g w. never (cc)) in
-      cond-elim P (isVirt (o .arm) (fileRoot s)) _ _
-      (λ v. by-map k (next UnreadableRanges c6 (λ g w. never (cc))))
-      (λ v.
-      cond-elim P (badRanges (fileRoot s)) _ _
-      (λ b. due UnreadableRanges c6 (λ g. (t, v, b)))
-      (λ b. by-map k (next UnreadableRanges c6 (λ g w. never (cc))))))
+  by-judging k t c5 = go (judgedOf (o .arm) (fileRoot s)) refl
     where
-      P : Judged → Type 0
-      P j = UnderTree (judgedVerdict j)
+      go : (j : Judged) → judgedOf (o .arm) (fileRoot s) ≡ j → UnderTree (judgedVerdict j)
+      go NoReg e = due UnreadableReg c5 (λ g. (t, judged-7 (o .arm) (fileRoot s) .0 e))
+      go NoRanges e =
+          let w = judged-8 (o .arm) (fileRoot s) .0 e in
+          due UnreadableRanges (next UnreadableReg c5 (λ g x. w .0 (x .1))) (λ g. (t, w .1))
+      go Sound e =
+          let w = judged-0 (o .arm) (fileRoot s) .0 e in
+          by-map k (next UnreadableRanges (next UnreadableReg c5 (λ g x. w .0 (x .1))) (λ g x. w .1 (x .1)))
 
   -- 4, 6 and 5
   module _ (x : Opened) (e : openedOf (fileTree s) ≡ x) where
@@ -252,9 +284,8 @@ module _ (p : ℕ) (s l : List ℕ) where
 
   -- ── The theorems ──
 
-  -- EACH NUMBER IS GIVEN EXACTLY WHEN its row says so and no row above it does
-  pub exactly : Page p → (r : Refusal) → (reportOf p s l ≡ Refused r) ↔ Due p s l r
-  exactly g r = (λ e. says-of (Refused r) e .0 g, λ d. go d (reportOf p s l) refl)
+  case-exactly : Page p → (r : Refusal) → (reportOf p s l ≡ Refused r) ↔ Due p s l r
+  case-exactly g r = (λ e. says-of (Refused r) e .0 g, λ d. go d (reportOf p s l) refl)
     where
       go : Due p s l r → (x : Report) → reportOf p s l ≡ x → reportOf p s l ≡ Refused r
       go d (Refused q) e =
@@ -267,6 +298,56 @@ module _ (p : ℕ) (s l : List ℕ) where
           (λ u. absurd (d .1 q u (w .0)))
           (le-or-lt (rank r) (rank q))
       go d (Done n sheet) e = absurd (says-of (Done n sheet) e .clear g r (d .0))
+
+  -- EACH NUMBER IS GIVEN EXACTLY WHEN its row says so and no row above it does
+  pub exactly : Page p → (r : Refusal) → (reportNumber (reportOf p s l) ≡ refusalNumber r) ↔ Due p s l r
+  exactly g r = given report-names (Refused r) (number-of r .1) (case-exactly g r)
+
+  -- and 0 exactly when no row holds
+  pub done-number : Page p → (reportNumber (reportOf p s l) ≡ 0) ↔ ((q : Refusal) → Row p s l q → ⊥)
+  done-number g = (
+    λ z. go (reportOf p s l) refl z,
+    λ f. back f (reportOf p s l) refl,
+  )
+    where
+      go : (x : Report) → reportOf p s l ≡ x → reportNumber x ≡ 0 → (q : Refusal) → Row p s l q → ⊥
+      go (Refused r) e z = absurd (number-of r .1 z)
+      go (Done n sheet) e z = says-of (Done n sheet) e .clear g
+
+      back : ((q : Refusal) → Row p s l q → ⊥) → (x : Report) → reportOf p s l ≡ x → reportNumber (reportOf p s l) ≡ 0
+      back f (Refused r) e = absurd (f r (says-of (Refused r) e .0 g .0))
+      back f (Done n sheet) e = ap reportNumber e
+
+  -- THE TABLE
+  pub table : Page p → Table p s l (reportNumber (reportOf p s l))
+  table g =
+      record {
+        nine = exactly g BadOrder;
+        one = exactly g UnknownKind;
+        four = exactly g BadHeader;
+        six = exactly g OverLimit;
+        five = exactly g BadStructure;
+        seven = exactly g UnreadableReg;
+        eight = exactly g UnreadableRanges;
+        two = exactly g MapFull;
+        three = exactly g TooManyAreas;
+        done = done-number g;
+      }
+
+  -- the sources' own number is the report's, but for 3, which the build alone gives
+  pub sources-number : GoodOrder s → (n : ℕ) → (n ≡ 0 → ⊥) → (n ≡ 3 → ⊥)
+      → (verdictNumber (verdictOf p s (orderIn s)) ≡ n) ↔ (reportNumber (reportOf p s l) ≡ n)
+  unfolding reportOf finished
+  sources-number good n f t = rw (order-good s (good-order s .1 good)) (go (verdictOf p s o))
+    where
+      built : (b : Bool) (k : ℕ) (sheet : PageSheet) → reportNumber (cond b (Done k sheet) (Refused TooManyAreas)) ≡ n → ⊥
+      built true k sheet e = f (sym e)
+      built false k sheet e = t (sym e)
+
+      go : (v : Verdict)
+          → (verdictNumber v ≡ n) ↔ (reportNumber (verdictReport v (finished (fileAreas p s) fileSheet l)) ≡ n)
+      go (Rejected r) = (λ e. e, λ e. e)
+      go Taken = (λ e. absurd (f (sym e)), λ e. absurd (built (fits (fileAreas p s) l) _ _ e))
 
   -- DONE EXACTLY WHEN no row holds, and then with the count of the areas and their page sheet
   pub done-exactly : Page p → (n : ℕ) (sheet : PageSheet)
@@ -296,8 +377,8 @@ module _ (p : ℕ) (s l : List ℕ) where
   done-accepted n sheet e = says-of (Done n sheet) e .accepted
 
   -- 512 slots are enough, since there are never more areas than entries held
-  pub enough-slots : Page p → 1024 ≤ length l → reportOf p s l ≡ Refused TooManyAreas → ⊥
+  pub enough-slots : Page p → 1024 ≤ length l → reportNumber (reportOf p s l) ≡ 3 → ⊥
   enough-slots g h e =
-      let w = exactly g TooManyAreas .0 e .0 in
+      let w = table g .three .0 e .0 in
       let m = after-made p (fileClaims s) g in
       omega (arith, w, areasOf-few m (o .low) (o .high), m .room)

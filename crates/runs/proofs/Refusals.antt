@@ -1,10 +1,14 @@
--- Refusals 1 and 2, exactly when, and that a refused call changes nothing. Assumes nothing.
+-- Refusals 1 and 2, exactly when, and that a refused call changes nothing. The theorems are those on the number; the laws on the answer's
+-- case stand below them. Assumes nothing.
 use mathlib.Core.Path.{_≡_, refl, ap, sym, _∙_}
-use mathlib.Core.Bool.{true, false, _&&_}
+use mathlib.Core.Bool.{true, false, cond, _&&_}
 use mathlib.Core.List.{List, [], _∷_, _++_, List·Memᴰ, List·Memᴰ·head, List·Memᴰ·tail}
 use mathlib.Core.Logic.{_↔_, _⊎_, inl, inr, ⊎-elim}
 use Prim.Native.Nat.{ℕ, _+_, _<_, _≤_}
 use native.Mathlib.Omega.{arith}
+use lib.Dec.{eqb}
+use Rattle.numbers.specs.Number.{Names}
+use Rattle.numbers.proofs.Given.{given}
 use Rattle.page.specs.Round.{Page}
 use Rattle.entry.specs.declared.MemoryEntry.{MemoryEntry}
 use Rattle.entry.specs.declared.KindRead.{KindRead}
@@ -15,7 +19,7 @@ use Rattle.memory.specs.declared.MemoryMap.{MemoryMap}
 use Rattle.memory.specs.declared.Answer.{Answer}
 use Rattle.memory.specs.declared.Answer.the-variants.{Done, UnknownKind, MapFull}
 use Rattle.memory.specs.declared.Registered.{Registered}
-use Rattle.memory.specs.Map.{slotsOf, at, Absorbs, Pass, pass, begin, inserted, Something, registered}
+use Rattle.memory.specs.Map.{answerNumber, slotsOf, at, Absorbs, Pass, pass, begin, inserted, Something, registered}
 use Rattle.memory.specs.Made.{Made}
 use Rattle.memory.specs.Run.{isDone, registeredAll, settled}
 use Rattle.memory.proofs.PassLaws.{look-ways, pass-keeps}
@@ -24,7 +28,7 @@ use Rattle.memory.proofs.RunLaws.{settled-done, settled-refused}
 use Rattle.bootloader.specs.List.{isKnown, allOf, allKnown, claims, listed}
 use Rattle.bootloader.proofs.ListLaws.{listed-unknown, listed-known}
 use Rattle.runs.specs.Sets.{Some}
-use Rattle.runs.specs.Refusals.{Refused, Overflows}
+use Rattle.runs.specs.Refusals.{Kinds, Kindless, Refused, Overflows}
 use Rattle.runs.proofs.Runs.{done-or, run-nil, run-on, run-stops, run-accepted}
 
 -- two cases of an answer are not one
@@ -36,6 +40,15 @@ done-unknown e = let z : _≡_ {A = ℕ} 0 1 = cc in omega arith
 
 unknown-full : UnknownKind ≡ MapFull → ⊥
 unknown-full e = let z : _≡_ {A = ℕ} 0 1 = cc in omega arith
+
+-- 1 and 2 name their cases
+answer-names : Names answerNumber
+answer-names = record { back = λ n. cond (eqb n 1) UnknownKind MapFull; named = each }
+  where
+    each : (a : Answer) → (answerNumber a ≡ 0) ⊎ (cond (eqb (answerNumber a) 1) UnknownKind MapFull ≡ a)
+    each Done = inl refl
+    each UnknownKind = inr refl
+    each MapFull = inr refl
 
 -- ── A pass that absorbs nothing ──
 record Still (m : MemoryMap) (e : MemoryEntry) (n : ℕ) (s : Pass) : Type 0 where
@@ -59,7 +72,6 @@ module _ (p : ℕ) (m : MemoryMap) (c : Claim) where
   unfolding inserted
   full-or-done P f g = placed-ways m (pass (m .size) (begin m (rounded p c))) (λ r. P (r .answer)) (λ h. f) (λ h. g)
 
-  -- refusal 1: "a kind is none of the seven, size 0 included"
   pub unknown-exactly : (registered p m c .answer ≡ UnknownKind) ↔ (IsKind (c .kind) → ⊥)
   unknown-exactly = (λ e. there (registered p m c) (registered-way p m c) e, back (registered p m c) (registered-way p m c))
     where
@@ -90,7 +102,6 @@ module _ (p : ℕ) (m : MemoryMap) (c : Claim) where
         (λ h. absurd (omega (arith, still-end m (rounded p c) (f .alone) .all, f .full))),
   )
 
-  -- refusal 2: "exactly when it is nonempty, 512 entries are held and none of its kind overlaps or touches it"
   pub full-exactly : m .size ≤ 512 → (registered p m c .answer ≡ MapFull) ↔ Refused p m c
   full-exactly room = (there (registered p m c) (registered-way p m c), back (registered p m c) (registered-way p m c))
     where
@@ -104,6 +115,31 @@ module _ (p : ℕ) (m : MemoryMap) (c : Claim) where
       back r (no-page i n) f = absurd (n (f .nonempty))
       back r (new-page s) f = insert-full room s .1 f
 
+  -- 1: "a kind is none of the seven, size 0 included"
+  pub number-1 : (answerNumber (registered p m c .answer) ≡ 1) ↔ Kindless c
+  number-1 = given answer-names UnknownKind (λ z. omega arith) unknown-exactly
+
+  -- 2: "It is refused exactly when it is nonempty, 512 entries are held and none of its kind overlaps or touches it."
+  pub number-2 : m .size ≤ 512 → (answerNumber (registered p m c .answer) ≡ 2) ↔ Refused p m c
+  number-2 room = given answer-names MapFull (λ z. omega arith) (full-exactly room)
+
+  -- "0 is done": neither of them
+  pub number-0 : m .size ≤ 512 → (answerNumber (registered p m c .answer) ≡ 0) ↔ (IsKind (c .kind) × (Refused p m c → ⊥))
+  number-0 room = (
+    λ z. (known-of (registered p m c) (registered-way p m c) z, λ f. let e = number-2 room .1 f in omega arith),
+    λ w. back (registered p m c .answer) refl w,
+  )
+    where
+      known-of : (r : Registered) → Way p m c r → answerNumber (r .answer) ≡ 0 → IsKind (c .kind)
+      known-of r (no-kind n) z = absurd (omega arith)
+      known-of r (no-page i n) z = i
+      known-of r (new-page s) z = s .known
+
+      back : (a : Answer) → registered p m c .answer ≡ a → IsKind (c .kind) × (Refused p m c → ⊥) → answerNumber (registered p m c .answer) ≡ 0
+      back Done e w = ap answerNumber e
+      back UnknownKind e w = absurd (unknown-exactly .0 e (w .0))
+      back MapFull e w = absurd (w .1 (full-exactly room .0 e))
+
   -- a refused registration leaves the map as it was
   pub refused-keeps : (registered p m c .answer ≡ Done → ⊥) → registered p m c .map ≡ m
   refused-keeps f = go (registered p m c) (registered-way p m c) f
@@ -116,12 +152,6 @@ module _ (p : ℕ) (m : MemoryMap) (c : Claim) where
           placed-ways m (pass (m .size) (begin m (rounded p c))) (λ q. (q .answer ≡ Done → ⊥) → q .map ≡ m) (λ h n. refl) (λ h n. absurd (n refl))
 
 -- ── A run of claims that all have a kind ──
-abbrev pub Kinds : List Claim → Type 0
-Kinds cs = (c : Claim) → List·Memᴰ c cs → IsKind (c .kind)
-
-abbrev Kindless : Claim → Type 0
-Kindless c = IsKind (c .kind) → ⊥
-
 -- judging tells the two apart
 pub judged : (cs : List Claim) → ((allOf cs ≡ true) × Kinds cs) ⊎ ((allOf cs ≡ false) × Some Kindless cs)
 unfolding allOf
@@ -200,14 +230,12 @@ module _ (p : ℕ) (m : MemoryMap) (l : List ℕ) where
   not-known-answer : allKnown l ≡ false → listed p m l .answer ≡ UnknownKind
   not-known-answer e = ap (λ (q : Registered). q .answer) (listed-unknown p m l e)
 
-  -- refusal 1 of a list: some entry's kind is none of the seven
   pub list-unknown-exactly : (listed p m l .answer ≡ UnknownKind) ↔ Some Kindless (claims l)
   list-unknown-exactly = (
     λ e. ⊎-elim (λ y. absurd (run-known p m (claims l) (y .1) (sym (all-known-answer (y .0)) ∙ e))) (λ y. y .1) (judged (claims l)),
     λ s. ⊎-elim (λ y. absurd (s .is (y .1 (s .claim) (s .among)))) (λ y. not-known-answer (y .0)) (judged (claims l)),
   )
 
-  -- refusal 2 of a list: all kinds are known, and the run of its claims overflows
   pub list-full-exactly : Page p → Made p m → (listed p m l .answer ≡ MapFull) ↔ (Kinds (claims l) × Overflows p m (claims l))
   list-full-exactly g made = (
     λ e. ⊎-elim
@@ -219,6 +247,29 @@ module _ (p : ℕ) (m : MemoryMap) (l : List ℕ) where
         (λ y. absurd (y .1 .is (w .0 (y .1 .claim) (y .1 .among))))
         (judged (claims l)),
   )
+
+  -- 1 of a list: some entry's kind is none of the seven
+  pub list-number-1 : (answerNumber (listed p m l .answer) ≡ 1) ↔ Some Kindless (claims l)
+  list-number-1 = given answer-names UnknownKind (λ z. omega arith) list-unknown-exactly
+
+  -- 2 of a list: all kinds are known, and the run of its claims overflows
+  pub list-number-2 : Page p → Made p m → (answerNumber (listed p m l .answer) ≡ 2) ↔ (Kinds (claims l) × Overflows p m (claims l))
+  list-number-2 g made = given answer-names MapFull (λ z. omega arith) (list-full-exactly g made)
+
+  -- 0 of a list: neither of them
+  pub list-number-0 : Page p → Made p m → (answerNumber (listed p m l .answer) ≡ 0) ↔ (Kinds (claims l) × (Overflows p m (claims l) → ⊥))
+  list-number-0 g made = (
+    λ z. ⊎-elim
+        (λ y. (y .1, λ o. let e = list-number-2 g made .1 (y .1, o) in omega arith))
+        (λ y. let e = list-number-1 .1 (y .1) in absurd (omega arith))
+        (judged (claims l)),
+    λ w. back (listed p m l .answer) refl w,
+  )
+    where
+      back : (a : Answer) → listed p m l .answer ≡ a → Kinds (claims l) × (Overflows p m (claims l) → ⊥) → answerNumber (listed p m l .answer) ≡ 0
+      back Done e w = ap answerNumber e
+      back UnknownKind e w = let s = list-unknown-exactly .0 e in absurd (s .is (w .0 (s .claim) (s .among)))
+      back MapFull e w = absurd (w .1 (list-full-exactly g made .0 e .1))
 
   -- a list that is done is the run of its claims
   pub list-done : listed p m l .answer ≡ Done → listed p m l ≡ registeredAll p m (claims l)

@@ -1,12 +1,20 @@
 -- When a registration and a list are refused: document 01, "Rounding and the map" and "Numbers a caller gets back".
 use mathlib.Core.Path.{_≡_}
-use mathlib.Core.List.{List, _∷_, _++_}
+use mathlib.Core.List.{List, _∷_, _++_, List·Memᴰ}
 use Prim.Native.Nat.{ℕ, _<_}
+use Rattle.entry.specs.Kind.{IsKind}
 use Rattle.entry.specs.Claim.{Claim, rounded}
 use Rattle.memory.specs.declared.MemoryMap.{MemoryMap}
 use Rattle.memory.specs.declared.Answer.the-variants.{Done}
 use Rattle.memory.specs.Map.{slotsOf, at, Absorbs, Something}
 use Rattle.memory.specs.Run.{registeredAll}
+
+-- every claim has one of the seven kinds; one has none
+abbrev pub Kinds : List Claim → Type 0
+Kinds cs = (c : Claim) → List·Memᴰ c cs → IsKind (c .kind)
+
+abbrev pub Kindless : Claim → Type 0
+Kindless c = IsKind (c .kind) → ⊥
 
 -- "It is refused exactly when it is nonempty, 512 entries are held and none of its kind overlaps or touches it."
 pub record Refused (p : ℕ) (m : MemoryMap) (c : Claim) : Type 0 where

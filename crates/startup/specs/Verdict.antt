@@ -36,6 +36,11 @@ refusalNumber UnreadableRanges = 8
 refusalNumber MapFull = 2
 refusalNumber TooManyAreas = 3
 
+-- "0 is done."
+abbrev pub verdictNumber : Verdict → ℕ
+verdictNumber Accepted = 0
+verdictNumber (Rejected r) = refusalNumber r
+
 -- "Checked in this order": what is checked first decides
 abbrev pub firstOf : Verdict → Verdict → Verdict
 firstOf (Rejected r) next = Rejected r

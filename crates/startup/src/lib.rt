@@ -5,7 +5,7 @@ ghost use Rattle.memory.specs.Map.{mapOf, left};
 ghost use Rattle.memory.specs.Made.{Made};
 ghost use Rattle.memory.specs.Run.{registeredAll};
 ghost use Rattle.startup.specs.Sources.{pairClaim, pairClaims, andThen};
-ghost use Rattle.startup.specs.Verdict.{refusalNumber, treeFault, rejection, sourcesOf, endedSources};
+ghost use Rattle.startup.specs.Verdict.{refusalNumber, verdictNumber, treeFault, rejection, sourcesOf, endedSources};
 ghost use Rattle.startup.specs.Report.{reportNumber, Finishes, Reports};
 use areas::Built;
 use areas::Limit;
@@ -53,6 +53,17 @@ impl Refusal {
 pub enum Verdict {
     Accepted,
     Rejected(Refusal),
+}
+
+impl Verdict {
+    pub fn number(self) -> u8
+        ensures { λ r. ⌜ r ≡ verdictNumber self ⌝ }
+    {
+        match self {
+            Verdict::Accepted => 0,
+            Verdict::Rejected(refusal) => refusal.number(),
+        }
+    }
 }
 
 // The map with all registrations of an order file, or the empty one beside the refusal. The map stands first so that its copies stay

@@ -19,7 +19,7 @@ use Rattle.fdt.specs.Tree.{Nodes, none, node}
 use Rattle.reading.specs.Values.{valueOf}
 use Rattle.windows.specs.declared.Window.{Window}
 use Rattle.windows.specs.declared.Window.the-variants.{To, Nowhere, Unreadable}
-use Rattle.runs.proofs.Refusals.{Kinds}
+use Rattle.runs.specs.Refusals.{Kinds}
 use Rattle.subtree.specs.Names.{rangesName, socName, reservedMemoryName}
 use Rattle.subtree.specs.Subtree.{propsOf, underRoot}
 use Rattle.reserved.specs.Reserved.{childrenCount}

@@ -1,3 +1,6 @@
 pub mod ClaimKinds
+pub mod SomeChild
+pub mod Unreadable
+pub mod Judging
 pub mod Refusals
 pub mod Translated

@@ -1,13 +1,17 @@
--- Each refusal of the tree's call is given exactly when document 01 says so, and none changes the map. Assumes nothing.
+-- Each number of the tree's call is given exactly when document 01 says so, and no refusal changes the map. Assumes nothing.
 use mathlib.Core.Path.{_≡_, refl, sym, _∙_, ap, subst}
-use mathlib.Core.Logic.{_↔_}
-use mathlib.Core.Bool.{Bool, true, false, _||_}
+use mathlib.Core.Logic.{_↔_, _⊎_, inl, inr}
+use mathlib.Core.Bool.{Bool, cond}
 use mathlib.Core.List.{List}
 use Prim.Native.Nat.{ℕ}
-use Rattle.words.proofs.BytesLaws.{cond-elim, never}
+use native.Mathlib.Omega.{arith}
+use lib.ListN.{length}
+use lib.Dec.{eqb}
+use Rattle.numbers.specs.Number.{Names}
+use Rattle.numbers.proofs.Given.{given}
+use Rattle.words.proofs.BytesLaws.{never}
 use Rattle.page.specs.Round.{Page}
 use Rattle.entry.specs.Claim.{Claim}
-use Rattle.cells.specs.declared.CellCount.{CellCount}
 use Rattle.memory.specs.declared.MemoryMap.{MemoryMap}
 use Rattle.memory.specs.declared.Answer.{Answer}
 use Rattle.memory.specs.declared.Answer.the-variants.{Done as RunDone, UnknownKind, MapFull as RunFull}
@@ -21,52 +25,23 @@ use Rattle.fdt.specs.declared.Blocks.{Blocks}
 use Rattle.fdt.specs.declared.Opened.{Opened}
 use Rattle.fdt.specs.declared.Opened.the-variants.{NoTree, Tree, BadHeader as NoHeader, OverLimit as Over, BadStructure as NoStructure}
 use Rattle.fdt.specs.Header.{structureOf, stringsOf}
-use Rattle.fdt.specs.Tree.{Property, Nodes, none, node, treeOf}
+use Rattle.fdt.specs.Tree.{Nodes, treeOf}
 use Rattle.fdt.specs.Opening.{blocksOf, openedOf}
-use Rattle.grammar.specs.Numbers.{HeaderBroken, OverLimits, StructureBroken}
-use Rattle.grammar.proofs.OpeningLaws.{bad-header-exactly, over-exactly as opened-over, bad-structure-exactly, opened-blocks}
+use Rattle.grammar.specs.Numbers.{HeaderBroken, OverLimits, StructureBroken, Opens}
+use Rattle.grammar.proofs.OpeningLaws.{no-tree-exactly, bad-header-exactly, over-exactly, bad-structure-exactly, opened-exactly, opened-blocks}
 use Rattle.reservations.specs.Reservations.{blockIn, entriesOf}
 use Rattle.claims.specs.declared.Judged.{Judged}
 use Rattle.claims.specs.declared.Judged.the-variants.{Sound, UnreadableReg as NoReg, UnreadableRanges as NoRanges}
-use Rattle.claims.specs.Claims.{isVirt, claimsOf}
-use Rattle.claims.specs.Judging.{childIs, someKid, badReg, badRanges, judgedOf}
+use Rattle.claims.specs.Claims.{claimsOf}
+use Rattle.claims.specs.Judging.{judgedOf}
 use Rattle.dtb.specs.declared.TreeAnswer.{TreeAnswer}
 use Rattle.dtb.specs.declared.TreeAnswer.the-variants.{Done, BadHeader, OverLimit, BadStructure, UnreadableReg, UnreadableRanges, MapFull}
 use Rattle.dtb.specs.declared.TreeRegistered.{TreeRegistered}
-use Rattle.dtb.specs.Call.{settledTree, judgedCall, openedCall, treeRegistered}
+use Rattle.dtb.specs.Call.{treeNumber, settledTree, judgedCall, openedCall, treeRegistered}
 use Rattle.dtb.proofs.CallLaws.{settled-done, settled-refused, call-opened, call-judged}
-use Rattle.tree_theorems.specs.Children.{Child, this, later}
+use Rattle.tree_theorems.specs.Unreadable.{BadReserved, BadSoc}
 use Rattle.tree_theorems.proofs.ClaimKinds.{claims-known}
-
--- ── Children ──
-module _ (reserved : Bool) (a c : CellCount) where
-  -- one that is so
-  abbrev One : Nodes → Type 0
-  One ks = (q : ℕ) × (ps : List Property) × Child q ps ks × (childIs reserved a c ps ≡ true)
-
-  some-of : (ks : Nodes) → someKid reserved a c ks ≡ true → One ks
-  unfolding someKid
-  some-of none e = never (cc)
-  some-of (node q nm ps kids rest) e = go (childIs reserved a c ps) refl e (some-of rest)
-    where
-      go : (t : Bool) → childIs reserved a c ps ≡ t → (t || someKid reserved a c rest) ≡ true → (someKid reserved a c rest ≡ true → One rest)
-          → One (node q nm ps kids rest)
-      go true i e f = (q, ps, this, i)
-      go false i e f = let w = f e in (w .0, w .1, later (w .2), w .3)
-
-  some-by : {q : ℕ} {ps : List Property} {ks : Nodes} → Child q ps ks → childIs reserved a c ps ≡ true → someKid reserved a c ks ≡ true
-  unfolding someKid
-  some-by this e = rw e
-  some-by (later {os = os} x) e = rw (some-by x e) (or-true (childIs reserved a c os))
-    where
-      or-true : (t : Bool) → (t || true) ≡ true
-      or-true true = refl
-      or-true false = refl
-
--- some child of a row is so exactly when there is one
-pub some-exactly : (reserved : Bool) (a c : CellCount) (ks : Nodes)
-    → (someKid reserved a c ks ≡ true) ↔ ((q : ℕ) × (ps : List Property) × Child q ps ks × (childIs reserved a c ps ≡ true))
-some-exactly reserved a c ks = (some-of reserved a c ks, λ w. some-by reserved a c (w .2) (w .3))
+use Rattle.tree_theorems.proofs.Judging.{judged-7, judged-8, judged-0}
 
 -- what is left of an answer that is neither done nor 1
 full-left : (a : Answer) → (a ≡ RunDone → ⊥) → (a ≡ UnknownKind → ⊥) → a ≡ RunFull
@@ -74,29 +49,26 @@ full-left RunDone f g = absurd (f refl)
 full-left UnknownKind f g = absurd (g refl)
 full-left RunFull f g = refl
 
--- ── What judging says ──
-module _ (arm : Bool) (t : Nodes) where
-  abbrev Judges : Judged → Type 0
-  Judges Sound = Unit {0}
-  Judges NoReg = badReg t ≡ true
-  Judges NoRanges = (badReg t ≡ false) × (isVirt arm t ≡ false) × (badRanges t ≡ true)
+-- the numbers name their cases
+tree-names : Names treeNumber
+tree-names = record { back = refusalOf; named = each }
+  where
+    refusalOf : ℕ → TreeAnswer
+    refusalOf n =
+        cond (eqb n 4) BadHeader
+        (cond (eqb n 6) OverLimit
+        (cond (eqb n 5) BadStructure
+        (cond (eqb n 7) UnreadableReg
+        (cond (eqb n 8) UnreadableRanges MapFull))))
 
-  judges : (j : Judged) → judgedOf arm t ≡ j → Judges j
-  unfolding judgedOf
-  judges j e =
-      subst Judges e
-      (cond-elim Judges (badReg t) _ _ (λ r. r)
-      (λ r. cond-elim Judges (isVirt arm t) _ _ (λ v. tt)
-      (λ v. cond-elim Judges (badRanges t) _ _ (λ g. (r, v, g)) (λ g. tt))))
-
-  -- and what it answers, where that holds
-  no-reg : badReg t ≡ true → NoReg ≡ judgedOf arm t
-  unfolding judgedOf
-  no-reg e = rw e
-
-  no-ranges : badReg t ≡ false → isVirt arm t ≡ false → badRanges t ≡ true → NoRanges ≡ judgedOf arm t
-  unfolding judgedOf
-  no-ranges e v g = rw (e, v, g)
+    each : (a : TreeAnswer) → (treeNumber a ≡ 0) ⊎ (refusalOf (treeNumber a) ≡ a)
+    each Done = inl refl
+    each BadHeader = inr refl
+    each OverLimit = inr refl
+    each BadStructure = inr refl
+    each UnreadableReg = inr refl
+    each UnreadableRanges = inr refl
+    each MapFull = inr refl
 
 module _ (p : ℕ) (m : MemoryMap) (s : List ℕ) (arm : Bool) where
   abbrev tree : Nodes
@@ -120,8 +92,8 @@ module _ (p : ℕ) (m : MemoryMap) (s : List ℕ) (arm : Bool) where
   Says n BadHeader = (n ≡ m) × (openedOf s ≡ NoHeader)
   Says n OverLimit = (n ≡ m) × (openedOf s ≡ Over)
   Says n BadStructure = (n ≡ m) × (openedOf s ≡ NoStructure)
-  Says n UnreadableReg = (n ≡ m) × (IsTree × (badReg tree ≡ true))
-  Says n UnreadableRanges = (n ≡ m) × (IsTree × (badReg tree ≡ false) × (isVirt arm tree ≡ false) × (badRanges tree ≡ true))
+  Says n UnreadableReg = (n ≡ m) × (IsTree × (judgedOf arm tree ≡ NoReg))
+  Says n UnreadableRanges = (n ≡ m) × (IsTree × (judgedOf arm tree ≡ NoRanges))
   Says n MapFull = (n ≡ m) × (IsTree × (judgedOf arm tree ≡ Sound) × (run .answer ≡ RunDone → ⊥))
 
   abbrev SaysOf : TreeRegistered → Type 0
@@ -132,8 +104,8 @@ module _ (p : ℕ) (m : MemoryMap) (s : List ℕ) (arm : Bool) where
       done-or (run .answer) (SaysOf (settledTree m run))
       (λ d. subst SaysOf (sym (settled-done m run (ap isDone d))) (λ t. (d, refl)))
       (λ f d. subst SaysOf (sym (settled-refused m run d)) (refl, (o, e, f)))
-  by-judging o NoReg e = (refl, (o, judges arm tree NoReg e))
-  by-judging o NoRanges e = let j = judges arm tree NoRanges e in (refl, (o, j .0, j .1, j .2))
+  by-judging o NoReg e = (refl, (o, e))
+  by-judging o NoRanges e = (refl, (o, e))
 
   by-opening : (o : Opened) → openedOf s ≡ o → SaysOf (openedCall p m s arm o)
   by-opening NoTree e = λ t. never (cc)
@@ -160,46 +132,98 @@ module _ (p : ℕ) (m : MemoryMap) (s : List ℕ) (arm : Bool) where
   abbrev answer : TreeRegistered → TreeAnswer
   answer r = r .answer
 
-  -- 4, 6 and 5: as opening says
-  pub header-exactly : (treeRegistered p m s arm .answer ≡ BadHeader) ↔ HeaderBroken s
-  header-exactly =
+  -- by the answer's case, as opening and judging say
+  header-case : (call .answer ≡ BadHeader) ↔ HeaderBroken s
+  header-case =
       let x = bad-header-exactly s in
       (λ e. x .0 (says-of BadHeader e .1), λ h. ap answer (opened NoHeader (x .1 h)))
 
-  pub over-exactly : (treeRegistered p m s arm .answer ≡ OverLimit) ↔ OverLimits s
-  over-exactly =
-      let x = opened-over s in
+  over-case : (call .answer ≡ OverLimit) ↔ OverLimits s
+  over-case =
+      let x = over-exactly s in
       (λ e. x .0 (says-of OverLimit e .1), λ h. ap answer (opened Over (x .1 h)))
 
-  pub structure-exactly : (treeRegistered p m s arm .answer ≡ BadStructure) ↔ StructureBroken s
-  structure-exactly =
+  structure-case : (call .answer ≡ BadStructure) ↔ StructureBroken s
+  structure-case =
       let x = bad-structure-exactly s in
       (λ e. x .0 (says-of BadStructure e .1), λ h. ap answer (opened NoStructure (x .1 h)))
 
-  -- 7: of an opened tree, before all else
-  pub reg-exactly : (treeRegistered p m s arm .answer ≡ UnreadableReg) ↔ ((openedOf s ≡ Tree (blocksOf s)) × (badReg tree ≡ true))
-  reg-exactly = (λ e. says-of UnreadableReg e .1, λ w. ap answer (judged (w .0) NoReg (no-reg arm tree (w .1))))
-
-  -- 8: where the soc window is read at all
-  pub ranges-exactly : (treeRegistered p m s arm .answer ≡ UnreadableRanges)
-      ↔ ((openedOf s ≡ Tree (blocksOf s)) × (badReg tree ≡ false) × (isVirt arm tree ≡ false) × (badRanges tree ≡ true))
-  ranges-exactly = (
-    λ e. says-of UnreadableRanges e .1,
-    λ w. ap answer (judged (w .0) NoRanges (no-ranges arm tree (w .1) (w .2) (w .3))),
+  -- a case that judging gives
+  by-case : (a : TreeAnswer) (j : Judged) {When : Type 0} → (Says (call .map) a → IsTree × (judgedOf arm tree ≡ j)) → judgedCall m j run .answer ≡ a
+      → (judgedOf arm tree ≡ j) ↔ When → (call .answer ≡ a) ↔ (Opens s × When)
+  by-case a j f g w = (
+    λ e. let x = f (says-of a e) in (opened-exactly s .0 (x .0), w .0 (x .1)),
+    λ y. ap answer (judged (opened-exactly s .1 (y .0)) j (sym (w .1 (y .1)))) ∙ g,
   )
 
-  -- 2: the claims of a sound tree overflow the map
-  pub full-exactly : Page p → Made p m
-      → (treeRegistered p m s arm .answer ≡ MapFull) ↔ ((openedOf s ≡ Tree (blocksOf s)) × (judgedOf arm tree ≡ Sound) × Overflows p m claims)
-  full-exactly g h = (
+  full-case : Page p → Made p m
+      → (call .answer ≡ MapFull) ↔ (Opens s × ((BadReserved tree → ⊥) × (BadSoc arm tree → ⊥)) × Overflows p m claims)
+  full-case g h = (
     λ e.
         let w = says-of MapFull e .1 in
         let f = full-left (run .answer) (w .2) (run-known p m claims (claims-known arm _ tree)) in
-        (w .0, w .1, run-full p m claims g h .0 f),
+        (opened-exactly s .0 (w .0), judged-0 arm tree .0 (w .1), run-full p m claims g h .0 f),
     λ w.
         let f = run-full p m claims g h .1 (w .2) in
-        ap answer (judged (w .0) Sound (sym (w .1)) ∙ settled-refused m run (ap isDone f)),
+        ap answer (judged (opened-exactly s .1 (w .0)) Sound (sym (judged-0 arm tree .1 (w .1))) ∙ settled-refused m run (ap isDone f)),
   )
+
+  -- THE NUMBERS: "Given exactly when"
+  pub number-4 : (treeNumber (treeRegistered p m s arm .answer) ≡ 4) ↔ HeaderBroken s
+  number-4 = given tree-names BadHeader (λ z. omega arith) header-case
+
+  pub number-6 : (treeNumber (treeRegistered p m s arm .answer) ≡ 6) ↔ OverLimits s
+  number-6 = given tree-names OverLimit (λ z. omega arith) over-case
+
+  pub number-5 : (treeNumber (treeRegistered p m s arm .answer) ≡ 5) ↔ StructureBroken s
+  number-5 = given tree-names BadStructure (λ z. omega arith) structure-case
+
+  pub number-7 : (treeNumber (treeRegistered p m s arm .answer) ≡ 7) ↔ (Opens s × BadReserved tree)
+  number-7 = given tree-names UnreadableReg (λ z. omega arith) (by-case UnreadableReg NoReg (λ w. w .1) refl (judged-7 arm tree))
+
+  pub number-8 : (treeNumber (treeRegistered p m s arm .answer) ≡ 8) ↔ (Opens s × ((BadReserved tree → ⊥) × BadSoc arm tree))
+  number-8 = given tree-names UnreadableRanges (λ z. omega arith) (by-case UnreadableRanges NoRanges (λ w. w .1) refl (judged-8 arm tree))
+
+  -- the claims of a tree that is judged sound overflow the map
+  pub number-2 : Page p → Made p m
+      → (treeNumber (treeRegistered p m s arm .answer) ≡ 2)
+      ↔ (Opens s × ((BadReserved tree → ⊥) × (BadSoc arm tree → ⊥)) × Overflows p m claims)
+  number-2 g h = given tree-names MapFull (λ z. omega arith) (full-case g h)
+
+  -- "0 is done": no tree, or one that none of them holds of
+  pub number-0 : Page p → Made p m
+      → (treeNumber (treeRegistered p m s arm .answer) ≡ 0)
+      ↔ ((length s ≡ 0) ⊎ (Opens s × ((BadReserved tree → ⊥) × (BadSoc arm tree → ⊥)) × (Overflows p m claims → ⊥)))
+  number-0 g h = (there (openedOf s) refl, λ w. back (call .answer) refl w)
+    where
+      -- none of the refusals holds where 0 is given
+      not-n : (k : ℕ) {When : Type 0} → (k ≡ 0 → ⊥) → (treeNumber (call .answer) ≡ k) ↔ When → treeNumber (call .answer) ≡ 0 → When → ⊥
+      not-n k f w z h = f (sym (w .1 h) ∙ z)
+
+      sound : Opens s → treeNumber (call .answer) ≡ 0 → (BadReserved tree → ⊥) × (BadSoc arm tree → ⊥)
+      sound o z =
+          let f : BadReserved tree → ⊥ = λ b. not-n 7 (λ e. omega arith) number-7 z (o, b) in
+          (f, λ b. not-n 8 (λ e. omega arith) number-8 z (o, (f, b)))
+
+      there : (x : Opened) → openedOf s ≡ x → treeNumber (call .answer) ≡ 0
+          → (length s ≡ 0) ⊎ (Opens s × ((BadReserved tree → ⊥) × (BadSoc arm tree → ⊥)) × (Overflows p m claims → ⊥))
+      there NoTree e z = inl (no-tree-exactly s .0 e)
+      there NoHeader e z = absurd (not-n 4 (λ i. omega arith) number-4 z (bad-header-exactly s .0 e))
+      there Over e z = absurd (not-n 6 (λ i. omega arith) number-6 z (over-exactly s .0 e))
+      there NoStructure e z = absurd (not-n 5 (λ i. omega arith) number-5 z (bad-structure-exactly s .0 e))
+      there (Tree k) e z =
+          let o : Opens s = opened-exactly s .0 (e ∙ ap Tree (opened-blocks s k e)) in
+          let w = sound o z in
+          inr (o, w, λ f. not-n 2 (λ i. omega arith) (number-2 g h) z (o, w, f))
+
+      back : (a : TreeAnswer) → call .answer ≡ a
+          → (length s ≡ 0) ⊎ (Opens s × ((BadReserved tree → ⊥) × (BadSoc arm tree → ⊥)) × (Overflows p m claims → ⊥)) → treeNumber (call .answer) ≡ 0
+      back a e (inl l) = ap treeNumber (ap answer (opened NoTree (no-tree-exactly s .1 l)))
+      back a e (inr (o, w, f)) =
+          let c = judged (opened-exactly s .1 o) Sound (sym (judged-0 arm tree .1 w)) in
+          done-or (run .answer) _
+          (λ d. ap treeNumber (ap answer (c ∙ settled-done m run (ap isDone d))))
+          (λ n d. absurd (f (run-full p m claims g h .0 (full-left (run .answer) n (run-known p m claims (claims-known arm _ tree))))))
 
   -- done: no tree, or a sound one whose claims are all registered
   pub done-registers : openedOf s ≡ Tree (blocksOf s) → treeRegistered p m s arm .answer ≡ Done
