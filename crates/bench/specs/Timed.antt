@@ -15,6 +15,6 @@ countOf (Done n) = n
 countOf TooManyAreas = 0
 
 -- a build without limits
-pub record BuildsFree (m : MemoryMap) (l l′ : List ℕ) (n : ℕ) : Type 0 where
-  pub count : n ≡ countOf (answerOf (areasOf 4096 Missing Missing m) l)
-  pub table : l′ ≡ tableOf (areasOf 4096 Missing Missing m) l
+pub record BuildsFree (p : ℕ) (m : MemoryMap) (l l′ : List ℕ) (n : ℕ) : Type 0 where
+  pub count : n ≡ countOf (answerOf (areasOf p Missing Missing m) l)
+  pub table : l′ ≡ tableOf (areasOf p Missing Missing m) l

@@ -53,7 +53,7 @@ pub extern "C" fn bench_build(
     slots: &mut [u64],
 ) -> usize
     requires { ⌜ Made 4096 (mapOf (now starts) (now ends) (now kinds) size) ⌝ }
-    ensures { λ r. ⌜ BuildsFree (mapOf (now (starts .entry)) (now (ends .entry)) (now (kinds .entry)) size) (now (slots .entry)) (now (slots .exit)) r ⌝ }
+    ensures { λ r. ⌜ BuildsFree 4096 (mapOf (now (starts .entry)) (now (ends .entry)) (now (kinds .entry)) size) (now (slots .entry)) (now (slots .exit)) r ⌝ }
 {
     let map = MemoryMap {
         starts: *starts,

@@ -3,12 +3,12 @@ use mathlib.Core.Path.{_≡_, refl, _∙_}
 use mathlib.Core.Bool.{Bool, true, false, cond, _&&_}
 use mathlib.Core.List.{List, map}
 use Prim.Native.Nat.{ℕ, zero, suc, _+_, _-_, _*_, _^_, _≤_, _<_, min}
-use native.Mathlib.Nat.{zero-mul, suc-mul, lt-of-mul-lt-mul-right}
+use native.Mathlib.Nat.{zero-mul, suc-mul, lt-of-mul-lt-mul-right, mul-le-mul-left, le-trans}
 use native.Mathlib.Omega.{arith}
 use lib.Dec.{lit≤}
 use lib.Ieee.{Float, binary64}
 use Rattle.page.specs.Round.{top, Page}
-use Rattle.page.proofs.Laws.{up-aligned, down-aligned, page}
+use Rattle.page.proofs.Laws.{up-aligned, down-aligned}
 use Rattle.entry.specs.declared.MemoryEntry.{MemoryEntry}
 use Rattle.entry.specs.declared.BootloaderMemoryKind.the-variants.{Free}
 use Rattle.entry.specs.Kind.{numberOf}
@@ -104,13 +104,18 @@ module _ {p : ℕ} {m : MemoryMap} (made : Made p m) (g : Page p) (low high : Li
       let x = areasOf-listed made low high (i * p) .0 (listed-reads (i * p) (areasOf p low high m) .0 e) in
       cuts-reads p limits spans i .1 ((x .1, x .2), free-lies m (i * p) .1 (x .0))))
 
--- "two counts below 2^52": the Free pages of a map inside the limits
-pub free-few : {m : MemoryMap} → Made 4096 m → (low high : Limit) → freePages 4096 low high m < 2 ^ 52
-free-few made low high = few-free made page low high (2 ^ 52) (lit≤ tt)
+-- pages of 4,096 bytes or more: 2^52 of them reach past every address
+module _ {p : ℕ} (g : Page p) (large : 4096 ≤ p) where
+  all-pages : 2 ^ 64 ≤ 2 ^ 52 * p
+  all-pages = let h : 2 ^ 52 * 4096 ≤ 2 ^ 52 * p = mul-le-mul-left (2 ^ 52) large in le-trans (lit≤ tt) h
 
--- and its usable pages, which are no more
-pub usable-few : {m : MemoryMap} → Made 4096 m → (low high : Limit) → usableIn 4096 (areasOf 4096 low high m) < 2 ^ 52
-usable-few made low high = omega (arith, free-few made low high, usable-free made page low high (2 ^ 52) (lit≤ tt))
+  -- "two counts below 2^52": the Free pages of a map inside the limits
+  pub free-few : {m : MemoryMap} → Made p m → (low high : Limit) → freePages p low high m < 2 ^ 52
+  free-few made low high = few-free made g low high (2 ^ 52) all-pages
+
+  -- and its usable pages, which are no more
+  pub usable-few : {m : MemoryMap} → Made p m → (low high : Limit) → usableIn p (areasOf p low high m) < 2 ^ 52
+  usable-few made low high = omega (arith, free-few made low high, usable-free made g low high (2 ^ 52) all-pages)
 
 -- ── An order file ──
 module _ (p : ℕ) (g : Page p) (s l : List ℕ) (n : ℕ) (sheet : PageSheet) (done : reportOf p s l ≡ Done n sheet) where
@@ -129,16 +134,16 @@ module _ (p : ℕ) (g : Page p) (s l : List ℕ) (n : ℕ) (sheet : PageSheet) (
         usable-and-taken p (orderIn s .low) (orderIn s .high) (fileClaims s) g a N all,
       )
 
-module _ (s l : List ℕ) (n : ℕ) (sheet : PageSheet) (done : reportOf 4096 s l ≡ Done n sheet) where
+module _ (p : ℕ) (g : Page p) (large : 4096 ≤ p) (s l : List ℕ) (n : ℕ) (sheet : PageSheet) (done : reportOf p s l ≡ Done n sheet) where
   share-is : sheet .share ≡ shareOf (sheet .free) (sheet .usable)
-  share-is = rw (file-sheet 4096 page s l n sheet done)
+  share-is = rw (file-sheet p g s l n sheet done)
 
   -- "two counts below 2^52"
   pub file-few : (sheet .free < 2 ^ 52) × (sheet .usable < 2 ^ 52)
   file-few =
-      let made = after-made 4096 (fileClaims s) page in
-      rw (file-sheet 4096 page s l n sheet done)
-      (free-few made (orderIn s .low) (orderIn s .high), usable-few made (orderIn s .low) (orderIn s .high))
+      let made = after-made p (fileClaims s) g in
+      rw (file-sheet p g s l n sheet done)
+      (free-few g large made (orderIn s .low) (orderIn s .high), usable-few g large made (orderIn s .low) (orderIn s .high))
 
   -- "none when no page is Free, positive zero when pages are Free and none is usable", and else "one division, rounded once"
   pub file-share : (sheet .free ≡ 0 → sheet .share ≡ NoFree)
@@ -148,7 +153,7 @@ module _ (s l : List ℕ) (n : ℕ) (sheet : PageSheet) (done : reportOf 4096 s 
     λ f. share-is ∙ rw f (share-none (sheet .usable)),
     λ f u. share-is ∙ rw u (share-zero (sheet .free) f (file-few .0)),
     λ u.
-        let c = file-pages 4096 page s l n sheet done (2 ^ 52) (lit≤ tt) .1 in
+        let c = file-pages p g s l n sheet done (2 ^ 52) (all-pages g large) .1 in
         let r = share-near (sheet .free) (sheet .usable) (omega arith) (file-few .0) u (file-few .1) in
         (r .0, share-is ∙ r .1, r .2),
   )

@@ -4,6 +4,7 @@ use mathlib.Core.Path.{_≡_}
 use mathlib.Core.List.{List, _∷_}
 use mathlib.Core.Bool.{true}
 use Prim.Native.Nat.{ℕ, suc, _+_, _-_, _*_, _/_, _^_, _≤_, _<_}
+use native.Mathlib.Nat.{suc-mul, mul-le-mul-left, div-lt-iff-lt-mul}
 use native.Mathlib.Omega.{arith}
 use lib.ListN.{getD}
 use borrow.Author.Tests.{eq-eqb, ne-eqb}
@@ -28,9 +29,12 @@ meet-some a b c e = go (meet a b) (meets a b) e
     go r (some h) f = let same : c ≡ overlap a b = cc in rw same h
     go r (none h) f = absurd (let z : _≡_ {A = ℕ} 0 1 = cc in omega arith)
 
--- no range has more pages
-pub pages-few : (from to : ℕ) → to < 2 ^ 64 → (to - from) / 4096 ≤ 2 ^ 52
-pages-few from to h = omega arith
+-- no range has more pages, where a page has 4,096 bytes or more
+pub pages-few : (p : ℕ) → 4096 ≤ p → (from to : ℕ) → to < 2 ^ 64 → (to - from) / p ≤ 2 ^ 52
+pages-few p large from to h =
+    let all : 2 ^ 52 * 4096 ≤ 2 ^ 52 * p = mul-le-mul-left (2 ^ 52) large in
+    let few : (to - from) / p < suc (2 ^ 52) = div-lt-iff-lt-mul {k = p} (omega arith) .1 (rw suc-mul (omega arith)) in
+    omega arith
 
 -- the Free pages of the entries from slot i up to slot n
 pub togo : ℕ → MemoryEntry → List ℕ → List ℕ → List ℕ → ℕ → ℕ → ℕ

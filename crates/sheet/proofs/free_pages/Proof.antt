@@ -65,7 +65,7 @@ loop-again : tie.Need-loop-again Inv-loop μ-loop
 loop-again c =
     let inv = c .before .before .loop .inv in
     let lt = c .before .loop-test .taken in
-    ⊎-elim (λ w. adds inv lt (w .0 .taken) (w .3 .given .0 .0) (sym (w .3 .given .1) ∙ w .1 .ensures) (pages-few _ _ (omega (arith, w .5 .given))) (w .6))
+    ⊎-elim (λ w. adds inv lt (w .0 .taken) (w .3 .given .0 .0) (sym (w .3 .given .1) ∙ w .1 .ensures) (pages-few 4096 (omega arith) _ _ (omega (arith, w .5 .given))) (w .6))
     (⊎-elim (λ w. misses inv lt (w .0 .taken) (sym (w .3 .given .1) ∙ w .1 .ensures) (w .4))
     (λ w. passes inv lt (w .0 .left) (w .1)))
     (c .if1 .came)
