@@ -12,7 +12,7 @@ use Rattle.words.specs.Bytes.{word}
 use Rattle.words.proofs.BytesLaws.{never, cond-elim}
 use Rattle.cells.specs.declared.CellCount.{CellCount}
 use Rattle.cells.specs.declared.CellCount.the-variants.{Stated, Absent, Faulty}
-use Rattle.cells.specs.Count.{statedBy, cellBytes, widthBy, addressWidth, sizeWidth}
+use Rattle.cells.specs.Count.{statedBy, cellBytes, widthBy, addressWidth, sizeWidth, Unfit}
 
 -- ── A stated count ──
 module _ (v : List ℕ) where
@@ -55,10 +55,6 @@ pub width-small : (c : CellCount) (missing : ℕ) → widthBy c missing ≤ 8
 width-small (Stated c) missing = cell-small c
 width-small Absent missing = cell-small missing
 width-small Faulty missing = omega arith
-
--- a count by which no number is read
-abbrev pub Unfit : CellCount → Type 0
-Unfit c = (c ≡ Faulty) ⊎ ((k : ℕ) × (c ≡ Stated k) × (k ≡ 1 → ⊥) × (k ≡ 2 → ⊥))
 
 module _ (missing : ℕ) (some : cellBytes missing ≡ 0 → ⊥) where
   none-unfit : (c : CellCount) → widthBy c missing ≡ 0 → Unfit c

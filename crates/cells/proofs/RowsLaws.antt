@@ -12,9 +12,9 @@ use lib.ListN.{length, getD}
 use lib.Dec.{eqb, ltb}
 use borrow.Author.Tests.{eq-eqb, ne-eqb, eqb-true, eqb-false, ltb-true, ltb-false}
 use Rattle.cells.specs.declared.CellCount.{CellCount}
-use Rattle.cells.specs.Count.{addressWidth, sizeWidth}
+use Rattle.cells.specs.Count.{addressWidth, sizeWidth, Unfit}
 use Rattle.words.proofs.BytesLaws.{never}
-use Rattle.cells.proofs.CountLaws.{Unfit, address-none, size-none}
+use Rattle.cells.proofs.CountLaws.{address-none, size-none}
 use Rattle.cells.specs.Rows.{Table, unreadable, rows, regionAt, rangeAt, rowsFrom, tableOf, regOf, rangesOf, regRow, rangeRow}
 use Rattle.cells.specs.declared.Region.{Region}
 use Rattle.cells.specs.declared.Range.{Range}

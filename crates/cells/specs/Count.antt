@@ -1,4 +1,6 @@
 -- How many cells a number takes: Devicetree Specification v0.4, section 2.3.5, and document 01, "The tree".
+use mathlib.Core.Path.{_≡_}
+use mathlib.Core.Logic.{_⊎_}
 use Prim.Native.Nat.{ℕ}
 use mathlib.Core.List.{List}
 use mathlib.Core.Bool.{cond}
@@ -28,3 +30,7 @@ addressWidth c = widthBy c 2
 
 abbrev pub sizeWidth : CellCount → ℕ
 sizeWidth c = widthBy c 1
+
+-- a count by which no number is read: "a cell count is not 1 or 2, a governing cell property is not 4 bytes"
+abbrev pub Unfit : CellCount → Type 0
+Unfit c = (c ≡ Faulty) ⊎ ((k : ℕ) × (c ≡ Stated k) × (k ≡ 1 → ⊥) × (k ≡ 2 → ⊥))

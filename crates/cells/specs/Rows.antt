@@ -1,5 +1,4 @@
--- The rows of `reg` and `ranges` in a property's value, and the entries of the reservation block: Specification, sections 2.3.6,
--- 2.3.8 and 5.3.2, and document 01, "The tree".
+-- The rows of `reg` and `ranges` in a property's value: Specification, sections 2.3.6 and 2.3.8, and document 01, "The tree".
 use Prim.Native.Nat.{ℕ, zero, suc, _+_, _/_, _%_}
 use mathlib.Core.List.{List, [], _∷_}
 use mathlib.Core.Bool.{Bool, true, false, cond, _||_}

@@ -8,8 +8,7 @@ use mathlib.Core.Option.{some, none as nothing}
 use lib.ListN.{length}
 use Rattle.words.specs.Bytes.{word}
 use Rattle.cells.specs.declared.Region.{Region}
-use Rattle.cells.specs.Count.{addressWidth, sizeWidth}
-use Rattle.cells.proofs.CountLaws.{Unfit}
+use Rattle.cells.specs.Count.{addressWidth, sizeWidth, Unfit}
 use Rattle.cells.specs.Rows.{rows, regOf}
 use Rattle.fdt.specs.Tree.{Property, Nodes}
 use Rattle.nodes.specs.Cells.{addressCells, sizeCells}
