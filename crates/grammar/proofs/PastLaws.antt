@@ -1,5 +1,6 @@
 -- "Bytes past totalsize are not read": bytes that begin with the same totalsize bytes are opened alike, to the same blocks. Assumes nothing.
 use mathlib.Core.Path.{_≡_, refl, sym, _∙_, ap}
+use mathlib.Core.Logic.{_⊎_, inl, inr, ⊎-elim}
 use Prim.Native.Nat.{ℕ, _+_, _≤_, _<_}
 use native.Mathlib.Omega.{arith}
 use mathlib.Core.List.{List}
@@ -68,15 +69,19 @@ module _ (s t : List ℕ) (d : SameFront s t) where
           let g = good-header s .0 h in
           rw (ne-eqb _ _ zs, ne-eqb _ _ zt, front-structure g, front-strings g, front-blocks, front-test, front-word 4 (omega arith))
 
--- so of all that a header of 40 bytes and more says is there, nothing past totalsize matters
-pub past-opened : (s : List ℕ) → 40 ≤ totalsize s → openedOf s ≡ openedOf (take (totalsize s) s)
-past-opened s h = go (leb (totalsize s) (length s)) refl
+-- the first totalsize bytes begin so, or are all that there is. With a totalsize of 0 they would be no tree, where the header is broken
+pub front-of : (s : List ℕ) → 40 ≤ totalsize s → SameFront s (take (totalsize s) s) ⊎ (s ≡ take (totalsize s) s)
+front-of s h = go (leb (totalsize s) (length s)) refl
   where
-    go : (x : Bool) → leb (totalsize s) (length s) ≡ x → openedOf s ≡ openedOf (take (totalsize s) s)
+    go : (x : Bool) → leb (totalsize s) (length s) ≡ x → SameFront s (take (totalsize s) s) ⊎ (s ≡ take (totalsize s) s)
     go true e =
         let l : totalsize s ≤ length s = leb-true _ _ e in
         let k : length (take (totalsize s) s) ≡ totalsize s = simp length-take (omega arith) in
-        front-opened s (take (totalsize s) s) (record { some = h; whole = l; also = omega arith; bytes = λ i q. sym (getD-take (totalsize s) s i 0 q) })
+        inl (record { some = h; whole = l; also = omega arith; bytes = λ i q. sym (getD-take (totalsize s) s i 0 q) })
     go false e =
         let l : length s < totalsize s = leb-false _ _ e in
-        ap openedOf (ext-getD 0 s (take (totalsize s) s) (simp length-take (omega arith)) (λ i q. sym (getD-take (totalsize s) s i 0 (omega arith))))
+        inr (ext-getD 0 s (take (totalsize s) s) (simp length-take (omega arith)) (λ i q. sym (getD-take (totalsize s) s i 0 (omega arith))))
+
+-- OPENING: the whole answer is that of the first totalsize bytes
+pub past-opened : (s : List ℕ) → 40 ≤ totalsize s → openedOf s ≡ openedOf (take (totalsize s) s)
+past-opened s h = ⊎-elim (λ d. front-opened s _ d) (λ e. ap openedOf e) (front-of s h)
