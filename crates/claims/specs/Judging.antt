@@ -30,7 +30,7 @@ abbrev pub inValue : {A : Type 0} → (List ℕ → A) → A → Option (List �
 inValue f missing nothing = missing
 inValue f missing (some v) = f v
 
--- a child with these properties: "a counted reserved child's nonempty `reg` is unreadable", or, of /soc, it has "a readable entry"
+-- a child with these properties: "a counted reserved child's nonempty `reg` is unreadable", or, of /soc, it has "a readable /soc entry"
 unfoldable pub childIs : Bool → CellCount → CellCount → List Property → Bool
 childIs true a c ps = available ps && inValue (λ v. isUnreadable (regOf a c v)) false (valueOf regName ps)
 childIs false a c ps = inValue (λ v. hasEntry (regOf a c v)) false (valueOf regName ps)

@@ -55,6 +55,6 @@ module _ (p : ℕ) (m : MemoryMap) (s : List ℕ) (arm : Bool) where
       judgedCall m (judgedOf arm (treeOf (structureOf s) (stringsOf s)))
       (registeredAll p m (claimsOf arm (entriesOf (blockIn s k)) (treeOf (structureOf s) (stringsOf s))))
 
-  -- "exactly those claims .. in that order", or a refusal "with the map as at its call"
+  -- exactly those claims, in that order; or a refusal that "gives back the map as at its call"
   unfoldable pub treeRegistered : TreeRegistered
   treeRegistered = openedCall (openedOf s)

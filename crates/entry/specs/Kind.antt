@@ -23,7 +23,7 @@ pub record IsKind (n : ℕ) : Type 0 where
   pub kind : BootloaderMemoryKind
   pub number : numberOf kind ≡ n
 
--- the kind that has the number, where one has it. KindLaws.known-kind and unknown-kind tie it to numberOf
+-- the kind that has the number, where one has it. KindLaws.known-number, number-known and unknown-none tie it to numberOf
 unfoldable pub kindOf : ℕ → KindRead
 kindOf n =
     cond (eqb n 0) (Known Null)

@@ -1,5 +1,6 @@
 -- What every map has that is made by our calls: it starts empty, and only they change it (document 01, "Rounding and the map").
--- This is all that a contract asks of a caller. MapLaws.registered-made and ListLaws.listed-made say that every call keeps it.
+-- This is all that a contract asks of a caller. MapLaws.registered-made, ListLaws.listed-made, PickedLaws.picked-made and
+-- CallLaws.tree-made say that every call hands back such a map.
 use mathlib.Core.Path.{_≡_}
 use Prim.Native.Nat.{ℕ, _<_, _≤_}
 use lib.ListN.{length}

@@ -86,15 +86,15 @@ skipT (prop q ∷ ts) d = skipT ts d
 skipT (fin ∷ ts) d = fin ∷ ts
 skipT (bad ∷ ts) d = bad ∷ ts
 
--- "a node's .. first child": the tokens after its name
+-- a node's first child: the tokens after its name
 unfoldable pub firstAt : List ℕ → List ℕ → ℕ → Found
 firstAt b n q = inside Nothing (λ p. firstKid (lexAt b n p)) (contentAt b n q)
 
--- "its next sibling": the tokens past its end
+-- its next sibling: the tokens past its end
 unfoldable pub nextAt : List ℕ → List ℕ → ℕ → Found
 nextAt b n q = inside Nothing (λ p. firstKid (skipT (lexAt b n p) 1)) (contentAt b n q)
 
--- ── Properties: "of equal names the first counts" ──
+-- ── Properties: "Of equal property names in a node the first counts" ──
 unfoldable pub lookup : List ℕ → List Tok → Value
 lookup name [] = Missing
 lookup name (begin p nm ∷ ts) = Missing

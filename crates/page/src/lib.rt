@@ -2,7 +2,7 @@
 ghost use mathlib.Core.Path.{_≡_};
 ghost use Rattle.page.specs.Round.{down, up, ending};
 
-// Only code says 4,096; the definitions hold for every page size.
+// Code and its contracts say 4,096; the definitions hold for every page size.
 pub const PAGE_SIZE: u64 = 4096;
 
 // The greatest multiple of the page size that is not above x.
