@@ -365,8 +365,12 @@ module _ (p : ℕ) (s l : List ℕ) where
       go f a b (Done m t) e = let w = says-of (Done m t) e in rw (a, b, ← w .count, ← w .pages) e
 
   -- "A refused list, tree or build .. writes nothing."
-  pub refused-writes-nothing : (r : Refusal) → reportOf p s l ≡ Refused r → slotsAfter p s l ≡ l
-  refused-writes-nothing r e = says-of (Refused r) e .1
+  pub refused-writes-nothing : (reportNumber (reportOf p s l) ≡ 0 → ⊥) → slotsAfter p s l ≡ l
+  refused-writes-nothing f = go (reportOf p s l) refl
+    where
+      go : (x : Report) → reportOf p s l ≡ x → slotsAfter p s l ≡ l
+      go (Refused r) e = says-of (Refused r) e .1
+      go (Done n sheet) e = absurd (f (ap reportNumber e))
 
   -- "Areas are (base, size)"; "all past the count is untouched"
   pub done-writes : (n : ℕ) (sheet : PageSheet) → reportOf p s l ≡ Done n sheet → slotsAfter p s l ≡ flat (fileAreas p s) ++ drop (n + n) l

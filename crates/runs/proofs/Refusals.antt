@@ -141,8 +141,8 @@ module _ (p : ℕ) (m : MemoryMap) (c : Claim) where
       back MapFull e w = absurd (w .1 (full-exactly room .0 e))
 
   -- a refused registration leaves the map as it was
-  pub refused-keeps : (registered p m c .answer ≡ Done → ⊥) → registered p m c .map ≡ m
-  refused-keeps f = go (registered p m c) (registered-way p m c) f
+  pub refused-keeps : (answerNumber (registered p m c .answer) ≡ 0 → ⊥) → registered p m c .map ≡ m
+  refused-keeps f = go (registered p m c) (registered-way p m c) (λ e. f (ap answerNumber e))
     where
       go : (r : Registered) → Way p m c r → (r .answer ≡ Done → ⊥) → r .map ≡ m
       go r (no-kind n) = λ f. refl
@@ -280,11 +280,11 @@ module _ (p : ℕ) (m : MemoryMap) (l : List ℕ) where
       (judged (claims l))
 
   -- a refused one gives back the map as at its call
-  pub list-refused : (listed p m l .answer ≡ Done → ⊥) → listed p m l .map ≡ m
+  pub list-refused : (answerNumber (listed p m l .answer) ≡ 0 → ⊥) → listed p m l .map ≡ m
   list-refused f =
       ⊎-elim
       (λ y. done-or (registeredAll p m (claims l) .answer) _
-      (λ d. absurd (f (all-known-answer (y .0) ∙ d)))
+      (λ d. absurd (f (ap answerNumber (all-known-answer (y .0) ∙ d))))
       (λ n s. ap (λ (q : Registered). q .map) (listed-known p m l (y .0) ∙ settled-refused m _ s)))
       (λ y. ap (λ (q : Registered). q .map) (listed-unknown p m l (y .0)))
       (judged (claims l))

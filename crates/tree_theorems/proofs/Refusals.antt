@@ -16,6 +16,7 @@ use Rattle.memory.specs.declared.MemoryMap.{MemoryMap}
 use Rattle.memory.specs.declared.Answer.{Answer}
 use Rattle.memory.specs.declared.Answer.the-variants.{Done as RunDone, UnknownKind, MapFull as RunFull}
 use Rattle.memory.specs.declared.Registered.{Registered}
+use Rattle.memory.specs.Map.{answerNumber}
 use Rattle.memory.specs.Made.{Made}
 use Rattle.memory.specs.Run.{isDone, registeredAll}
 use Rattle.runs.specs.Refusals.{Overflows}
@@ -225,19 +226,30 @@ module _ (p : ℕ) (m : MemoryMap) (s : List ℕ) (arm : Bool) where
           (λ d. ap treeNumber (ap answer (c ∙ settled-done m run (ap isDone d))))
           (λ n d. absurd (f (run-full p m claims g h .0 (full-left (run .answer) n (run-known p m claims (claims-known arm _ tree))))))
 
-  -- done: no tree, or a sound one whose claims are all registered
-  pub done-registers : openedOf s ≡ Tree (blocksOf s) → treeRegistered p m s arm .answer ≡ Done
-      → (registeredAll p m claims .answer ≡ RunDone) × (treeRegistered p m s arm .map ≡ registeredAll p m claims .map)
-  done-registers o e = says-of Done e o
+  -- 0 is the number of one case
+  done-of : (a : TreeAnswer) → treeNumber a ≡ 0 → a ≡ Done
+  done-of Done z = refl
+  done-of BadHeader z = never (cc)
+  done-of OverLimit z = never (cc)
+  done-of BadStructure z = never (cc)
+  done-of UnreadableReg z = never (cc)
+  done-of UnreadableRanges z = never (cc)
+  done-of MapFull z = never (cc)
 
-  pub no-tree : openedOf s ≡ NoTree → (treeRegistered p m s arm .answer ≡ Done) × (treeRegistered p m s arm .map ≡ m)
-  no-tree o = rw (opened NoTree o) (refl, refl)
+  -- done: the claims of an opened tree are all registered, in their order
+  pub done-registers : Opens s → treeNumber (treeRegistered p m s arm .answer) ≡ 0
+      → (answerNumber (registeredAll p m claims .answer) ≡ 0) × (treeRegistered p m s arm .map ≡ registeredAll p m claims .map)
+  done-registers o z = let w = says-of Done (done-of (call .answer) z) (opened-exactly s .1 o) in (ap answerNumber (w .0), w .1)
+
+  -- "A tree of 0 bytes is no tree.": done, and nothing is registered
+  pub no-tree : length s ≡ 0 → (treeNumber (treeRegistered p m s arm .answer) ≡ 0) × (treeRegistered p m s arm .map ≡ m)
+  no-tree l = rw (opened NoTree (no-tree-exactly s .1 l)) (refl, refl)
 
   -- a refused tree gives back the map as at its call
-  pub refused-keeps : (treeRegistered p m s arm .answer ≡ Done → ⊥) → treeRegistered p m s arm .map ≡ m
+  pub refused-keeps : (treeNumber (treeRegistered p m s arm .answer) ≡ 0 → ⊥) → treeRegistered p m s arm .map ≡ m
   refused-keeps f = kept (call .answer) says f
     where
-      kept : (a : TreeAnswer) → Says (call .map) a → (a ≡ Done → ⊥) → call .map ≡ m
+      kept : (a : TreeAnswer) → Says (call .map) a → (treeNumber a ≡ 0 → ⊥) → call .map ≡ m
       kept Done w f = absurd (f refl)
       kept BadHeader w f = w .0
       kept OverLimit w f = w .0
