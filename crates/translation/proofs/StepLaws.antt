@@ -4,7 +4,7 @@ use mathlib.Core.Path.{_≡_, refl, sym, _∙_, ap}
 use mathlib.Core.Bool.{false}
 use mathlib.Core.List.{List, [], _∷_}
 use mathlib.Core.Option.{some, none as nothing}
-use Prim.Native.Nat.{ℕ, suc, _+_, _-_, _*_, _^_, _≤_, _<_}
+use Prim.Native.Nat.{ℕ, suc, _+_, _-_, _^_, _≤_, _<_, max}
 use native.Mathlib.Omega.{arith}
 use lib.ListN.{length}
 use borrow.Author.Tests.{eq-eqb, ne-eqb, le-leb, lt-leb}
@@ -15,7 +15,7 @@ use Rattle.cells.specs.declared.Region.{Region}
 use Rattle.cells.specs.declared.RegRow.{RegRow}
 use Rattle.cells.specs.declared.RegRow.the-variants.{NoReg, PastReg, RegAt}
 use Rattle.cells.specs.Rows.{Table, unreadable, rows, regOf, rangesOf, regRow}
-use Rattle.fdt.specs.Tree.{Nodes, none, node, count}
+use Rattle.fdt.specs.Tree.{Nodes, none, node, count, height}
 use Rattle.nodes.specs.declared.Found.{Found}
 use Rattle.nodes.specs.declared.Found.the-variants.{At, Nothing}
 use Rattle.nodes.specs.declared.Value.{Value}
@@ -38,7 +38,7 @@ use Rattle.translation.specs.declared.Translated.{Translated}
 use Rattle.translation.specs.declared.Translated.the-variants.{Found as Reached, NoAddress}
 use Rattle.subtree.specs.Names.{regName, rangesName}
 use Rattle.translation.specs.Translation.{addressOf, sizeOf, over, arrived, trail, firstRow, startOf, translated}
-use Rattle.translation.specs.Search.{begunAt, viaWindow, upThrough, orOn, tried, searched, finished, Begins}
+use Rattle.translation.specs.Search.{begunAt, viaWindow, upThrough, orOn, tried, searched, finished, Begins, rowLeft, nodeLeft}
 use Rattle.translation.proofs.SearchLaws.{tried-on, on-count, search-is}
 
 -- ── The end ──
@@ -117,6 +117,10 @@ module _ (q : ℕ) where
   counted none e = never (cc)
   counted (node p nm ps kids rest) e = refl
 
+  raised : (t : Nodes) → headOf t ≡ At q → height t ≡ max (suc (height (kidsOf t))) (height (restOf t))
+  raised none e = never (cc)
+  raised (node p nm ps kids rest) e = refl
+
   searched-node : (target : ℕ) (s : Sought) (a c : CellCount) (k : ℕ) (t : Nodes) → headOf t ≡ At q
       → searched target s t a c k
       ≡ orOn (tried target s q (propsOf t) a c k (searched target s (kidsOf t) (addressOf (propsOf t)) (sizeOf (propsOf t)) (k + 1)))
@@ -130,11 +134,13 @@ module _ {b n : List ℕ} {q k : ℕ} (p : Begins b n (At q) k) where
   pub numbered : k + 1 ≤ length b + 1
   numbered = let z = counted q (nodeAt b n q) (p .stands) in omega arith
 
-  -- its children begin, and are fewer
-  pub children : (f : Found) → f ≡ firstAt b n q → Begins b n f (k + 1) × (2 * count (at b n f) + 1 < 2 * count (nodeAt b n q))
+  -- its children begin, and have a level less
+  pub children : (f : Found) → f ≡ firstAt b n q → Begins b n f (k + 1) × (rowLeft (at b n f) < nodeLeft (nodeAt b n q))
   children f e =
       let z = counted q (nodeAt b n q) (p .stands) in
-      let w : count (kidsOf (nodeAt b n q)) ≡ count (at b n f) = ap count (kids-at b n q ∙ ap (at b n) (sym e)) in
+      let y : kidsOf (nodeAt b n q) ≡ at b n f = kids-at b n q ∙ ap (at b n) (sym e) in
+      let w : count (kidsOf (nodeAt b n q)) ≡ count (at b n f) = ap count y in
+      let h : height (kidsOf (nodeAt b n q)) ≡ height (at b n f) = ap height y in
       (record { stands = rw e (first-stands b n q); room = omega arith }, omega arith)
 
 module _ (b n : List ℕ) (q target : ℕ) (s : Sought) (a c : CellCount) (k : ℕ) where
@@ -160,11 +166,11 @@ module _ (b n : List ℕ) (q target : ℕ) (s : Sought) (a c : CellCount) (k : �
 -- the search from the first of them on is the search from this one on
 pub record Goes (b n : List ℕ) (target : ℕ) (s : Sought) (a c : CellCount) (first : Found) (before : ℕ) (child : Found) (number : ℕ) : Type 0 where
   pub begins : Begins b n child number
-  pub fewer : count (at b n child) ≤ count (at b n first)
+  pub lower : height (at b n child) ≤ height (at b n first)
   pub same : searched target s (at b n first) a c before ≡ searched target s (at b n child) a c number
 
 pub starts : {b n : List ℕ} {target : ℕ} {s : Sought} {a c : CellCount} {f : Found} {k : ℕ} → Begins b n f k → Goes b n target s a c f k f k
-starts p = record { begins = p; fewer = omega arith; same = refl }
+starts p = record { begins = p; lower = omega arith; same = refl }
 
 module _ {b n : List ℕ} {target : ℕ} {s : Sought} {a c : CellCount} {first : Found} {before : ℕ} {child : Found} {number : ℕ} (g : Goes b n target s a c first before child number) where
   pub none-left : child ≡ Nothing → On number ≡ searched target s (at b n first) a c before
@@ -172,8 +178,12 @@ module _ {b n : List ℕ} {target : ℕ} {s : Sought} {a c : CellCount} {first :
   none-left e = sym (rw e at (g .same))
 
   module _ (q : ℕ) (e : child ≡ At q) where
-    pub node-begins : Begins b n (At q) number × (2 * count (nodeAt b n q) < 2 * count (at b n first) + 1)
-    node-begins = let f : count (nodeAt b n q) ≤ count (at b n first) = rw e at (g .fewer) in (rw e at (g .begins), omega arith)
+    pub node-begins : Begins b n (At q) number × (nodeLeft (nodeAt b n q) < rowLeft (at b n first))
+    node-begins =
+        let f : height (nodeAt b n q) ≤ height (at b n first) = rw e at (g .lower) in
+        let i : Begins b n (At q) number = rw e at (g .begins) in
+        let z = raised q (nodeAt b n q) (i .stands) in
+        (i, omega arith)
 
     module _ (r : Search) (h : Tried b n q target s a c number r) where
       -- x is what the node gave: that is the answer, or the nodes after it have it
@@ -200,9 +210,12 @@ module _ {b n : List ℕ} {target : ℕ} {s : Sought} {a c : CellCount} {first :
         again =
             let l = less in
             let o = passed in
+            let z = raised q (nodeAt b n q) (node-begins .0 .stands) in
+            let w : height (nodeAt b n q) ≤ height (at b n first) = rw e at (g .lower) in
+            let h : height (restOf (nodeAt b n q)) ≡ height (at b n next) = ap height after in
             record {
               begins = record { stands = rw j (next-stands b n q); room = omega (arith, g .begins .room) };
-              fewer = omega (arith, g .fewer);
+              lower = omega arith;
               same = sym (goes-on (On m) i) ∙ ap (λ (t : Nodes). searched target s t a c m) after;
             }
 

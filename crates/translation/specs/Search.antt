@@ -1,13 +1,14 @@
 -- The search that finds the target and climbs on its way back, node by node and children by children, as translate_from_subtree does.
 -- SearchLaws.search-is: on every tree it gives what specs/Translation.antt says.
-use Prim.Native.Nat.{ℕ, _+_, _≤_}
+use Prim.Native.Nat.{ℕ, suc, _+_, _*_, _≤_}
 use mathlib.Core.List.{List}
 use mathlib.Core.Bool.{cond}
 use lib.ListN.{length}
 use lib.Dec.{eqb}
 use Rattle.cells.specs.declared.CellCount.{CellCount}
-use Rattle.fdt.specs.Tree.{Property, Nodes, none, node, count}
+use Rattle.fdt.specs.Tree.{Property, Nodes, none, node, count, height}
 use Rattle.nodes.specs.declared.Found.{Found}
+use Rattle.nodes.specs.OnTree.{kidsOf}
 use Rattle.windows.specs.declared.Window.{Window}
 use Rattle.windows.specs.declared.Window.the-variants.{To, Nowhere, Unreadable}
 use Rattle.reading.specs.Values.{valueOf}
@@ -63,3 +64,13 @@ finished (On m) = NoAddress
 pub record Begins (b n : List ℕ) (f : Found) (tried : ℕ) : Type 0 where
   pub stands : Stands b n f
   pub room : tried + count (at b n f) ≤ length b + 1
+
+-- ── How deep the calls go: "a node and its children call each other, depth falling"; "remaining levels .. fall" ──
+
+-- what falls from call to call where the nodes of a row are tried one after the other: twice the levels of the row, and one
+abbrev pub rowLeft : Nodes → ℕ
+rowLeft row = 2 * height row + 1
+
+-- and where the first of these nodes is tried, and then its children: twice its own levels, with no sibling counted
+abbrev pub nodeLeft : Nodes → ℕ
+nodeLeft t = 2 * suc (height (kidsOf t))

@@ -1,5 +1,5 @@
 // Translation of a device's bus address through every ancestor's `ranges`, with the number of nodes tried. One routine tries a node as
-// the target, the other runs over its children; the nodes that are left fall.
+// the target, the other runs over its children; the levels that are left fall.
 ghost use mathlib.Core.Path.{_≡_};
 ghost use Prim.Native.Nat.{_+_};
 ghost use Rattle.nodes.specs.declared.Found.the-variants.{At};

@@ -4,3 +4,4 @@ pub mod Unreadable
 pub mod Judging
 pub mod Refusals
 pub mod Translated
+pub mod Depth

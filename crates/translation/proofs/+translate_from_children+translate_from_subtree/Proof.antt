@@ -1,14 +1,15 @@
 -- `translation::translate_from_children` and `translation::translate_from_subtree` meet their contracts. The measure of their recursion is
--- twice the count of the nodes from here on, and one more for the children, who hand on their own first node. The loop's invariant
--- (StepLaws.Goes): the search from the first child on is the search from this one on; its measure is the count of the nodes from this one
--- on. Assumes nothing.
-use Prim.Native.Nat.{ℕ, _+_, _*_, _<_}
+-- the levels that are left (Search.rowLeft, nodeLeft): a node's children have a level less than the node, and the node no more than the row
+-- it stands in. The loop's invariant (StepLaws.Goes): the search from the first child on is the search from this one on; its measure is the
+-- count of the nodes from this one on. Assumes nothing.
+use Prim.Native.Nat.{ℕ, _<_}
 use native.Mathlib.Omega.{arith}
 use borrow.Author.Needs.{needs}
 use borrow.Fn.Kinds.{In}
 use borrow.Fn.PlainCycle.{Measures, is, falls, and}
 use Rattle.fdt.specs.Tree.{count}
 use Rattle.subtree.specs.Subtree.{nodeAt, at}
+use Rattle.translation.specs.Search.{rowLeft, nodeLeft}
 use Rattle.translation.proofs.StepLaws.{numbered, children, is-target, is-other, Goes, starts, none-left, node-begins, goes-on, less, again}
 use Rattle.translation.proofs.translate_from_children.Reads as row
 use Rattle.translation.proofs.translate_from_children.Kinds as row-kinds
@@ -27,10 +28,10 @@ use Rattle.translation.proofs.+translate_from_children+translate_from_s
 
 -- ── The measures ──
 abbrev μ-row : Measures 1 row-kinds.ps ℕ
-μ-row κs a = 2 * count (at (a .0 .now) (a .1 .0 .now) (a .1 .1 .0)) + 1
+μ-row κs a = rowLeft (at (a .0 .now) (a .1 .0 .now) (a .1 .1 .0))
 
 abbrev μ-one : Measures 1 one-kinds.ps ℕ
-μ-one κs a = 2 * count (nodeAt (a .0 .now) (a .1 .0 .now) (a .1 .1 .0))
+μ-one κs a = nodeLeft (nodeAt (a .0 .now) (a .1 .0 .now) (a .1 .1 .0))
 
 abbrev row-at : ℕ → In 1 row-kinds.ps
 row-at t = and 1 row-kinds.ps (is 1 row-kinds.ps μ-row t) row.Pre
