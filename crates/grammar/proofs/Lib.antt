@@ -5,3 +5,4 @@ pub mod FaultLaws
 pub mod OpeningLaws
 pub mod VeilLaws
 pub mod PastLaws
+pub mod Aligned
