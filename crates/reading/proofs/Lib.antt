@@ -5,3 +5,4 @@ pub mod Values
 pub mod Paths
 pub mod Order
 pub mod ReadVeil
+pub mod Opened

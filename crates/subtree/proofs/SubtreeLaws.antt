@@ -1,5 +1,5 @@
 -- Reading at a place gives what the node there says, of any two blocks; and of an accepted tree, that is the tree. Assumes nothing.
-use mathlib.Core.Path.{_≡_, refl, sym, _∙_, ap}
+use mathlib.Core.Path.{_≡_, refl, _∙_, ap}
 use Prim.Native.Nat.{ℕ, _+_, _≤_}
 use native.Mathlib.Omega.{arith}
 use mathlib.Core.Bool.{Bool, true, false, cond}
@@ -12,8 +12,6 @@ use Rattle.fdt.specs.Header.{structureOf, stringsOf}
 use Rattle.fdt.specs.Token.{tokAt}
 use Rattle.fdt.specs.Tree.{Property, Nodes, none, node, count, fin, lexAt, treeOf}
 use Rattle.fdt.specs.Opening.{openedOf}
-use Rattle.grammar.proofs.GrammarLaws.{tokens-are, tree-is}
-use Rattle.grammar.proofs.OpeningLaws.{opened-exactly, opened-blocks}
 use Rattle.nodes.specs.declared.Found.{Found}
 use Rattle.nodes.specs.declared.Found.the-variants.{At, Nothing}
 use Rattle.nodes.specs.declared.Value.the-variants.{Missing}
@@ -25,6 +23,7 @@ use Rattle.reading.specs.Reads.{WrittenFor}
 use Rattle.reading.specs.Values.{valueOf, held, countOf}
 use Rattle.reading.specs.Paths.{pathIn}
 use Rattle.reading.proofs.Values.{held-count}
+use Rattle.reading.proofs.Opened.{on-written}
 use Rattle.subtree.specs.Subtree.{nodeAt, at, rootAt, Stands, propsOf, restOf, goTo, pathTo}
 use Rattle.subtree.proofs.TokenRows.{skip-read, node-content, node-nothing, node-few, found-stands, looked-up, step-found, step-stands, row-is}
 
@@ -167,12 +166,7 @@ module _ (b n : List ℕ) where
 
 -- and so of an accepted tree
 pub opened-tree : (s : List ℕ) (k : Blocks) → openedOf s ≡ Tree k → rootAt (structureOf s) (stringsOf s) ≡ treeOf (structureOf s) (stringsOf s)
-opened-tree s k e =
-    let b = structureOf s in
-    let n = stringsOf s in
-    let w = opened-exactly s .0 (e ∙ ap Tree (opened-blocks s k e)) .2 in
-    written-at b n (w .root) (w .ps) (w .kids) (tokens-are b n (w .root) (w .ps) (w .kids) (w .block))
-    ∙ sym (tree-is b n (w .root) (w .ps) (w .kids) (w .block))
+opened-tree s k e = on-written s k e (λ t. rootAt (structureOf s) (stringsOf s) ≡ t) (written-at (structureOf s) (stringsOf s))
 
 go-place : (steps : List (List ℕ)) (t : Nodes) → goK t steps ≡ headOf (goTo t steps)
 unfolding goK goTo findK

@@ -1,6 +1,6 @@
 -- What translation gives on an accepted tree: its number is the target's place in document order; and a root's child lies where the
 -- claims of interrupt controllers put it. Assumes nothing.
-use mathlib.Core.Path.{_≡_, refl, sym, _∙_, ap, subst}
+use mathlib.Core.Path.{_≡_, refl, sym, _∙_, subst}
 use mathlib.Core.Logic.{_⊎_, inl, inr, ⊎-elim}
 use mathlib.Core.Bool.{Bool, true, false, cond}
 use mathlib.Core.List.{List, [], _∷_}
@@ -15,8 +15,6 @@ use Rattle.fdt.specs.declared.Opened.the-variants.{Tree}
 use Rattle.fdt.specs.Header.{structureOf, stringsOf}
 use Rattle.fdt.specs.Tree.{Property, Nodes, none, node, treeOf}
 use Rattle.fdt.specs.Opening.{openedOf}
-use Rattle.grammar.proofs.OpeningLaws.{opened-exactly, opened-blocks}
-use Rattle.grammar.proofs.GrammarLaws.{tokens-are, tree-is}
 use Rattle.nodes.specs.OnTree.{Among, first, below, after, kidsOf}
 use Rattle.nodes.specs.Order.{placeAt, order, numberIn}
 use Rattle.reading.specs.Paths.{NodeIn}
@@ -26,6 +24,7 @@ use Rattle.reading.specs.Reads.{WrittenFor}
 use Rattle.reading.proofs.Paths.{carried}
 use Rattle.reading.proofs.Reading.{numbered}
 use Rattle.reading.proofs.Order.{one-in, ascending-past, apart, ascending}
+use Rattle.reading.proofs.Opened.{on-written}
 use Rattle.windows.specs.declared.Window.{Window}
 use Rattle.windows.specs.declared.Window.the-variants.{To, Nowhere, Unreadable}
 use Rattle.subtree.specs.Names.{regName}
@@ -126,26 +125,18 @@ module _ (s : List ℕ) (k : Blocks) (o : openedOf s ≡ Tree k) where
   abbrev tree : Nodes
   tree = treeOf (structureOf s) (stringsOf s)
 
-  -- an accepted tree is one that its blocks are written for
-  on-written : (P : Nodes → Type 0)
-      → ((root : ℕ) (ps : List Property) (kids : Nodes) → WrittenFor (structureOf s) (stringsOf s) root ps kids → P (node root [] ps kids none)) → P tree
-  on-written P f =
-      let w = opened-exactly s .0 (o ∙ ap Tree (opened-blocks s k o)) .2 in
-      subst P (sym (tree-is (structureOf s) (stringsOf s) (w .root) (w .ps) (w .kids) (w .block)))
-      (f (w .root) (w .ps) (w .kids) (tokens-are (structureOf s) (stringsOf s) (w .root) (w .ps) (w .kids) (w .block)))
-
   -- the number of nodes tried is the target's place in document order, as reading gives it
   pub tried-is-place : (q : ℕ) (sought : Sought) (r : Region) (n : ℕ) → translated tree q sought ≡ Found r n
       → n ≡ placeAt (structureOf s) (stringsOf s) q
   tried-is-place q sought r n e =
-      on-written (λ t. translated t q sought ≡ Found r n → n ≡ placeAt (structureOf s) (stringsOf s) q)
+      on-written s k o (λ t. translated t q sought ≡ Found r n → n ≡ placeAt (structureOf s) (stringsOf s) q)
       (λ root ps kids w. tried-written (structureOf s) (stringsOf s) root ps kids w q sought) e
 
   -- a child of the root, by its place: no bus stands between
   pub root-child : (q : ℕ) (ps : List Property) → Child q ps (kidsOf tree) → (r : Region)
       → translated tree q (Given r) ≡ answer (landsBy Controllers (rows []) (r .address) (r .size)) (r .size) (numberIn (order (kidsOf tree) []) q 1)
   root-child q ps c r =
-      on-written
+      on-written s k o
       (λ t. Child q ps (kidsOf t) → translated t q (Given r)
       ≡ answer (landsBy Controllers (rows []) (r .address) (r .size)) (r .size) (numberIn (order (kidsOf t) []) q 1))
       (λ root os kids w d. child-written (structureOf s) (stringsOf s) root os kids w d r) c
