@@ -1,13 +1,15 @@
--- What translation gives on an accepted tree: its number is the target's place in document order; and a root's child lies where the
--- claims of interrupt controllers put it. Assumes nothing.
-use mathlib.Core.Path.{_≡_, refl, sym, _∙_, subst}
-use mathlib.Core.Logic.{_⊎_, inl, inr, ⊎-elim}
+-- What translation gives. On every tree: its number is 0 exactly where no address is found, and a target that has one is a node below the
+-- root. On an accepted tree: any other number is the target's place in document order; and a root's child lies where the claims of
+-- interrupt controllers put it. Assumes nothing.
+use mathlib.Core.Path.{_≡_, refl, sym, _∙_, ap, subst}
+use mathlib.Core.Logic.{_↔_, _⊎_, inl, inr, ⊎-elim}
 use mathlib.Core.Bool.{Bool, true, false, cond}
 use mathlib.Core.List.{List, [], _∷_}
-use Prim.Native.Nat.{ℕ}
+use Prim.Native.Nat.{ℕ, zero, suc, _+_, _≤_, _<_}
+use native.Mathlib.Omega.{arith}
 use lib.Dec.{eqb}
 use borrow.Author.Tests.{eq-eqb, ne-eqb, eqb-true}
-use Rattle.words.proofs.BytesLaws.{never}
+use Rattle.words.proofs.BytesLaws.{never, cond-elim}
 use Rattle.cells.specs.declared.Region.{Region}
 use Rattle.cells.specs.Rows.{rows}
 use Rattle.fdt.specs.declared.Blocks.{Blocks}
@@ -18,7 +20,7 @@ use Rattle.fdt.specs.Opening.{openedOf}
 use Rattle.nodes.specs.OnTree.{Among, first, below, after, kidsOf}
 use Rattle.nodes.specs.Order.{placeAt, order, numberIn}
 use Rattle.reading.specs.Paths.{NodeIn}
-use Rattle.reading.specs.Order.{Ascending}
+use Rattle.reading.specs.Order.{Ascending, OneOf, this, later}
 use Rattle.reading.specs.Values.{valueOf}
 use Rattle.reading.specs.Reads.{WrittenFor}
 use Rattle.reading.proofs.Paths.{carried}
@@ -28,13 +30,16 @@ use Rattle.reading.proofs.Opened.{on-written}
 use Rattle.windows.specs.declared.Window.{Window}
 use Rattle.windows.specs.declared.Window.the-variants.{To, Nowhere, Unreadable}
 use Rattle.subtree.specs.Names.{regName}
+use Rattle.subtree.specs.Subtree.{propsOf}
 use Rattle.translation.specs.declared.Sought.{Sought}
 use Rattle.translation.specs.declared.Sought.the-variants.{Given}
-use Rattle.translation.specs.declared.Translated.the-variants.{Found}
-use Rattle.translation.specs.Translation.{addressOf, sizeOf, orElse, trail, climb, climbed, Start, from, no-start, startOf, answer, fromStart, parentOf, alongTrail, translated}
+use Rattle.translation.specs.declared.Translated.{Translated}
+use Rattle.translation.specs.declared.Translated.the-variants.{Found, NoAddress}
+use Rattle.translation.specs.Translation.{addressOf, sizeOf, orElse, trail, climb, climbed, Start, from, no-start, startOf, answer, fromStart, parentOf, alongTrail, translated, triedNumber}
 use Rattle.claims.specs.declared.Way.the-variants.{Controllers}
 use Rattle.claims.specs.Claims.{landsBy}
-use Rattle.tree_theorems.specs.Children.{Child, this, later}
+use Rattle.tree_theorems.specs.Children.{Child, this as child-first, later as child-later}
+use Rattle.tree_theorems.specs.Addresses.{HasAddress}
 
 -- ── The trail ──
 -- where there is one, its target is a node
@@ -64,15 +69,15 @@ trail-past q p nm os kids rest above = go (eqb p q) (trail q kids (os ∷ above)
 
 -- a child is a node of its row
 child-node : {q : ℕ} {ps : List Property} {ks : Nodes} → Child q ps ks → NodeIn ks q
-child-node {ps = ps} (this {nm = nm} {kids = kids} {rest = rest}) = record { name = nm; properties = ps; kids = kids; rest = rest; among = first }
-child-node (later x) = let i = child-node x in carried i (after (i .among))
+child-node {ps = ps} (child-first {nm = nm} {kids = kids} {rest = rest}) = record { name = nm; properties = ps; kids = kids; rest = rest; among = first }
+child-node (child-later x) = let i = child-node x in carried i (after (i .among))
 
 -- where places ascend no node before a child in document order has its place, so the trail leads to the child
 trail-child : {q : ℕ} {ps : List Property} {ks : Nodes} → Child q ps ks → (above : List (List Property)) {p : ℕ} → Ascending p (order ks [])
     → trail q ks above ≡ ps ∷ above
 unfolding trail order
-trail-child {q = q} this above a = rw (eq-eqb q q refl)
-trail-child {q = q} (later {p = p} {nm = nm} {os = os} {kids = kids} {rest = rest} x) above a =
+trail-child {q = q} child-first above a = rw (eq-eqb q q refl)
+trail-child {q = q} (child-later {p = p} {nm = nm} {os = os} {kids = kids} {rest = rest} x) above a =
     let o = one-in (child-node x .among) [] in
     let e : trail q (node p nm os kids none) above ≡ [] =
     ⊎-elim (λ z. z) (λ i. absurd (apart (i .among) (order rest []) a o)) (trail-node q (node p nm os kids none) above) in
@@ -94,6 +99,53 @@ trail-number : (l : List (List Property)) (s : Sought) (k : ℕ) {r : Region} {n
 trail-number [] s k e = never (cc)
 trail-number (own ∷ above) s k e =
     (start-number (startOf s (addressOf (parentOf above)) (sizeOf (parentOf above)) (valueOf regName own)) above k e, λ z. never (cc))
+
+-- the number of one of these places is no less than that of the first
+number-from : {q : ℕ} {l : List ℕ} → OneOf q l → (m : ℕ) → m ≤ numberIn l q m
+unfolding numberIn
+number-from {q = q} this m = rw (eq-eqb q q refl) (omega arith)
+number-from {q = q} (later {p = p} {l = l} o) m =
+    let i = number-from o (m + 1) in
+    cond-elim (λ (x : ℕ). m ≤ x) (eqb p q) _ _ (λ e. omega arith) (λ e. omega arith)
+
+-- ── On every tree ──
+module _ (t : Nodes) (q : ℕ) (sought : Sought) where
+  -- "A target that is no node below the root: none."
+  pub found-below : HasAddress (translated t q sought) → NodeIn (kidsOf t) q
+  unfolding translated
+  found-below h =
+      ⊎-elim (λ z. absurd (trail-number (trail q (kidsOf t) (propsOf t ∷ [])) sought (numberIn (order (kidsOf t) []) q 1) (h .found) .1 z)) (λ i. i)
+      (trail-node q (kidsOf t) (propsOf t ∷ []))
+
+  -- a found address has a number from 1 on, and that is the number which is given
+  found-number : (h : HasAddress (translated t q sought)) → 1 ≤ h .number
+  unfolding translated
+  found-number h =
+      let e = trail-number (trail q (kidsOf t) (propsOf t ∷ [])) sought (numberIn (order (kidsOf t) []) q 1) (h .found) .0 in
+      let i = number-from (one-in (found-below h .among) []) 1 in
+      omega arith
+
+  number-of : (h : HasAddress (translated t q sought)) → triedNumber (translated t q sought) ≡ h .number
+  number-of h = ap triedNumber (h .found)
+
+  -- where a number above 0 is given, there is one
+  found-where : (k : ℕ) → triedNumber (translated t q sought) ≡ k → 0 < k → HasAddress (translated t q sought)
+  found-where k = go (translated t q sought) refl
+    where
+      go : (x : Translated) → translated t q sought ≡ x → triedNumber x ≡ k → 0 < k → HasAddress (translated t q sought)
+      go (Found r n) e h l = record { region = r; number = n; found = e }
+      go NoAddress e h l = let z : ⊥ = omega arith in absurd z
+
+  -- THE THEOREM: "A failure gives 0.", and nothing else does
+  pub failure-exactly : (triedNumber (translated t q sought) ≡ 0) ↔ (HasAddress (translated t q sought) → ⊥)
+  failure-exactly = (
+    (λ e h. let i = found-number h in let j = number-of h in omega arith),
+    (λ f. go (triedNumber (translated t q sought)) refl f),
+  )
+    where
+      go : (k : ℕ) → triedNumber (translated t q sought) ≡ k → (HasAddress (translated t q sought) → ⊥) → triedNumber (translated t q sought) ≡ 0
+      go zero e f = e
+      go (suc k) e f = absurd (f (found-where (suc k) e (omega arith)))
 
 -- ── On the tree that the blocks are written for ──
 module _ (b n : List ℕ) (root : ℕ) (ps : List Property) (kids : Nodes) (w : WrittenFor b n root ps kids) where
@@ -131,6 +183,16 @@ module _ (s : List ℕ) (k : Blocks) (o : openedOf s ≡ Tree k) where
   tried-is-place q sought r n e =
       on-written s k o (λ t. translated t q sought ≡ Found r n → n ≡ placeAt (structureOf s) (stringsOf s) q)
       (λ root ps kids w. tried-written (structureOf s) (stringsOf s) root ps kids w q sought) e
+
+  -- THE THEOREM: a number above 0 is given exactly when an address is found and the number is the target's place in document order
+  pub number-exactly : (q : ℕ) (sought : Sought) (n : ℕ) → 0 < n
+      → (triedNumber (translated tree q sought) ≡ n) ↔ (HasAddress (translated tree q sought) × (n ≡ placeAt (structureOf s) (stringsOf s) q))
+  number-exactly q sought n l =
+      let is : HasAddress (translated tree q sought) → triedNumber (translated tree q sought) ≡ placeAt (structureOf s) (stringsOf s) q =
+      λ h. number-of tree q sought h ∙ tried-is-place q sought (h .region) (h .number) (h .found) in (
+        (λ e. let h = found-where tree q sought n e l in (h, sym e ∙ is h)),
+        (λ h. is (h .0) ∙ sym (h .1)),
+      )
 
   -- a child of the root, by its place: no bus stands between
   pub root-child : (q : ℕ) (ps : List Property) → Child q ps (kidsOf tree) → (r : Region)
