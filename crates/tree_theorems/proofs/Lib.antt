@@ -5,3 +5,4 @@ pub mod Judging
 pub mod Refusals
 pub mod Translated
 pub mod Depth
+pub mod ControllerLaws

@@ -1,3 +1,4 @@
 pub mod Children
 pub mod Unreadable
 pub mod Addresses
+pub mod Controllers
