@@ -1,1 +1,3 @@
 pub mod ListingLaws
+pub mod PickedLaws
+pub mod FirstLaws

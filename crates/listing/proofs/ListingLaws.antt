@@ -1,6 +1,6 @@
 -- The listings, counted as the code counts: by the number n of held entries. Assumes nothing.
 use mathlib.Core.Path.{_≡_, refl, ap, sym, _∙_}
-use mathlib.Core.Bool.{Bool, true, false}
+use mathlib.Core.Bool.{Bool, true, false, cond}
 use mathlib.Core.List.{List, [], _∷_}
 use Prim.Native.Nat.{ℕ, suc, _+_, _-_, _<_, _≤_}
 use native.Mathlib.Omega.{arith}
@@ -12,6 +12,16 @@ use Rattle.listing.specs.Listing.{entriesFrom, those, laid, first}
 
 more : (n i : ℕ) → i < n → n - i ≡ suc (n - (i + 1))
 more n i h = omega arith
+
+-- a fact of those that pass of e ∷ es, from the test's two ways
+pub those-ways : (t : MemoryEntry → Bool) (e : MemoryEntry) (es : List MemoryEntry) (P : List MemoryEntry → Type 0)
+    → (t e ≡ true → P (e ∷ those t es)) → (t e ≡ false → P (those t es)) → P (those t (e ∷ es))
+unfolding those
+those-ways t e es P f g = go (t e) refl
+  where
+    go : (b : Bool) → t e ≡ b → P (cond b (e ∷ those t es) (those t es))
+    go true h = f h
+    go false h = g h
 
 module _ (t : MemoryEntry → Bool) (l : Slots) (n i : ℕ) where
   pub those-done : n ≤ i → those t (entriesFrom l (n - i) i) ≡ []

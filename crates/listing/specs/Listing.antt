@@ -1,7 +1,8 @@
 -- What a map lists: the held entries of a kind, or those of every other kind, in the order in which they are held.
+use mathlib.Core.Path.{_≡_}
 use mathlib.Core.Bool.{Bool, cond, not}
 use mathlib.Core.List.{List, [], _∷_}
-use Prim.Native.Nat.{ℕ, zero, suc, _+_}
+use Prim.Native.Nat.{ℕ, zero, suc, _+_, _<_}
 use lib.Dec.{eqb}
 use lib.ListN.{length}
 use Rattle.entry.specs.declared.MemoryEntry.{MemoryEntry}
@@ -50,3 +51,16 @@ first t (e ∷ l) = cond (t e) (Entry e) (first t l)
 
 unfoldable pub firstOf : ℕ → MemoryMap → FoundEntry
 firstOf kind m = first (λ e. eqb (e .kind) kind) (held m)
+
+-- ── What `firstOf` means, said of the slots ("`MemoryMap::register` and its listings"; the Rust's `kernel` finds the first) ──
+-- e is the first held entry of a kind: it stands in a held slot, it is of that kind, and no entry before it is
+pub record FirstHeld (kind : ℕ) (m : MemoryMap) (e : MemoryEntry) : Type 0 where
+  pub slot : ℕ
+  pub below : slot < m .size
+  pub there : at (slotsOf m) slot ≡ e
+  pub is : e .kind ≡ kind
+  pub none : (j : ℕ) → j < slot → at (slotsOf m) j .kind ≡ kind → ⊥
+
+-- no held entry is of that kind
+abbrev pub NoneHeld : ℕ → MemoryMap → Type 0
+NoneHeld kind m = (j : ℕ) → j < m .size → at (slotsOf m) j .kind ≡ kind → ⊥
