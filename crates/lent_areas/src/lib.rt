@@ -51,15 +51,14 @@ fn table_for(map: MemoryMap, low: Limit, high: Limit, room: usize) -> AreaTable
     }
 }
 
-// Area i of a table.
-fn area_of(table: AreaTable, i: usize) -> MemoryArea
+// Area i of a table's numbers, which are lent, so that no area costs a copy of them.
+fn area_of(slots: &[u64; 1024], i: usize) -> MemoryArea
     requires { ⌜ i < 512 ⌝ }
-    ensures { λ r. ⌜ r ≡ areaAt (table .slots) i ⌝ }
+    ensures { λ r. ⌜ r ≡ areaAt (now (slots .entry)) i ⌝ }
 {
-    let s = table.slots;
     MemoryArea {
-        base: s[i + i],
-        size: s[i + i + 1],
+        base: slots[i + i],
+        size: slots[i + i + 1],
     }
 }
 
@@ -69,9 +68,10 @@ pub fn build(row: &mut [MemoryArea], map: MemoryMap, low: Limit, high: Limit) ->
     ensures { λ r. ⌜ (r ≡ rowAnswer (areasOf 4096 low high map) (length (now (row .entry)))) × (now (row .exit) ≡ rowOf (areasOf 4096 low high map) (now (row .entry))) ⌝ }
 {
     let t = table_for(map, low, high, row.len());
+    let slots = t.slots;
     let mut i = 0;
     while i < t.count {
-        row[i] = area_of(t, i);
+        row[i] = area_of(&slots, i);
         i += 1;
     }
     t.answer
