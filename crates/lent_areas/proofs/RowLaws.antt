@@ -21,7 +21,7 @@ use Rattle.areas.proofs.MadeLaws.{areasOf-few}
 use Rattle.areas.proofs.Writing.{flat-length}
 use Rattle.lent_areas.specs.declared.MemoryArea.{MemoryArea}
 use Rattle.lent_areas.specs.declared.AreaTable.{AreaTable}
-use Rattle.lent_areas.specs.Row.{areaOf, areaAt, rowAnswer, rowCount, rowOf, Finished}
+use Rattle.lent_areas.specs.Row.{areaOf, areaAt, rowCount, rowOf, Finished}
 
 -- ── The row with areas stored ──
 
@@ -79,7 +79,7 @@ module _ (areas : List Interval) (row : List MemoryArea) (slots : List ℕ) (fit
 
 -- what a finished table lays is the row that is asked for
 pub laid-finished : (areas : List Interval) (row : List MemoryArea) (t : AreaTable) → Finished areas (length row) t → laid row (t .slots) (t .count) ≡ rowOf areas row
-unfolding rowOf rowCount
+unfolding rowCount
 laid-finished areas row t d = go (leb (length areas) (length row)) refl
   where
     go : (b : Bool) → leb (length areas) (length row) ≡ b → laid row (t .slots) (t .count) ≡ cond b (map areaOf areas ++ drop (length areas) row) row
@@ -121,14 +121,14 @@ module _ (areas : List Interval) (few : length areas ≤ 512) (l : List ℕ) (si
 
     -- the row has fewer slots than there are areas
     pub refuses : {room : ℕ} (l′ : List ℕ) → room < n → Finished areas room (record { slots = l′; count = 0; answer = TooManyAreas })
-    unfolding rowAnswer rowCount
+    unfolding rowCount
     refuses {room} l′ h =
         let over : leb (length areas) room ≡ false = lt-leb (length areas) room (omega (arith, count-is)) in
         record { answer = rw over; count = rw over; most = omega arith; fits = omega arith; slots = refl }
 
     -- the row has a slot for each
     pub finishes : {room : ℕ} {l′ : List ℕ} → n ≤ room → l′ ≡ tableOf areas l → Finished areas room (record { slots = l′; count = n; answer = Done n })
-    unfolding rowAnswer rowCount
+    unfolding rowCount
     finishes {room} h t =
         let within : leb (length areas) room ≡ true = le-leb (length areas) room (omega (arith, count-is)) in
         record {

@@ -1,10 +1,9 @@
 // The finished areas in a lent row of area records: document 01, "then a lent row of area records". The build in number slots does the work.
 ghost use mathlib.Core.Path.{_≡_};
 ghost use Prim.Native.Nat.{_<_};
-ghost use lib.ListN.{length};
 ghost use Rattle.memory.specs.Made.{Made};
 ghost use Rattle.areas.specs.Areas.{areasOf};
-ghost use Rattle.lent_areas.specs.Row.{areaAt, rowAnswer, rowOf, Finished};
+ghost use Rattle.lent_areas.specs.Row.{areaAt, Finished, BuildsRow};
 use areas::Built;
 use areas::Limit;
 use memory::MemoryMap;
@@ -65,7 +64,7 @@ fn area_of(slots: &[u64; 1024], i: usize) -> MemoryArea
 // The finished areas of a map into the lent row; the rest of the row stays, and where they are too many all of it does.
 pub fn build(row: &mut [MemoryArea], map: MemoryMap, low: Limit, high: Limit) -> Built
     requires { ⌜ Made 4096 map ⌝ }
-    ensures { λ r. ⌜ (r ≡ rowAnswer (areasOf 4096 low high map) (length (now (row .entry)))) × (now (row .exit) ≡ rowOf (areasOf 4096 low high map) (now (row .entry))) ⌝ }
+    ensures { λ r. ⌜ BuildsRow 4096 map low high (now (row .entry)) (now (row .exit)) r ⌝ }
 {
     let t = table_for(map, low, high, row.len());
     let slots = t.slots;
@@ -86,7 +85,7 @@ pub struct Row {
 // The same for a caller that hands its row over and gets it back: the row is lent from a local.
 pub fn build_into(row: [MemoryArea; 512], map: MemoryMap, low: Limit, high: Limit) -> Row
     requires { ⌜ Made 4096 map ⌝ }
-    ensures { λ r. ⌜ (r .answer ≡ rowAnswer (areasOf 4096 low high map) 512) × (r .areas ≡ rowOf (areasOf 4096 low high map) row) ⌝ }
+    ensures { λ r. ⌜ BuildsRow 4096 map low high row (r .areas) (r .answer) ⌝ }
 {
     let mut areas = row;
     let answer = build(&mut areas, map, low, high);

@@ -227,7 +227,7 @@ module _ {M : Type 1} (𝓤 : URA M) (H : Heap 𝓤) (A : Atoms 𝓤) (W : Given
   exits d e answer-is =
       qed W (‵ (fobs γ (codedHoleys T.the-row .code (heres T.the-row zs))) ∷ ‵ (fbor κ (Held T.the-row (length zs) b o γ)) ∷ ‵ (flft κ q) ∷ []) ∵
       suffices ! _ (ends-at 𝓤 H A f.ended stayed (f.clauses 𝓤 H A mem run) W (((κ, tt), (q, tt), tt, x, at), tt) (only (r-vals (d .answer))) (d .answer) (zs, (tt, (tt, (tt, tt)))) (same-length, (tt, (tt, (tt, tt))))) $
-      says ! (e .answer, laid-finished areas ys d e) $ nothing ! $ move ! (3 ∷ 0 ∷ []) $ join ! $ frame ! $
+      says ! (record { answer = e .answer; areas = laid-finished areas ys d e }) $ nothing ! $ move ! (3 ∷ 0 ∷ []) $ join ! $ frame ! $
       fjoin ! $ pureI ! (at-slice T.the-row (s zs) (s-val ∷ [])) (tt, (tt, tt)) (ap (λ (m : ℕ). sliceVal (b, o) m ∷ []) (sym same-length), subst (Room T.the-row) (sym same-length) room) $ fjoin ! $
       nothing ! $ owned ! L.the-row (Is L.the-row) (EL.makes L.the-type L′.the-plain 𝓤 H A) high (l-vals high) high-is $ fjoin ! $ owned ! L.the-row (Is L.the-row) (EL.makes L.the-type L′.the-plain 𝓤 H A) low (l-vals low) low-is $ fjoin ! $ owned ! N.the-row (Is N.the-row) (LL.makes N.the-type N′.the-plain 𝓤 H A) h (n-vals h) h-is $ fjoin ! $ move ! (1 ∷ 0 ∷ []) $ fjoin ! $
       owned ! R.the-row (Is R.the-row) (EL.makes R.the-type R′.the-plain 𝓤 H A) (d .answer) (r-vals (d .answer)) answer-is $ move ! (1 ∷ 0 ∷ []) $ done !

@@ -52,15 +52,13 @@ use Rattle.memory.proofs.MemoryMap as N
 use Rattle.memory.proofs.MemoryMap.Laws as N′
 use Rattle.areas.specs.declared.Limit.{Limit}
 use Rattle.areas.specs.declared.Built.{Built}
-use Rattle.areas.specs.Interval.{Interval}
-use Rattle.areas.specs.Areas.{areasOf}
 use Rattle.areas.proofs.Limit as L
 use Rattle.areas.proofs.Limit.Laws as L′
 use Rattle.areas.proofs.Built as R
 use Rattle.areas.proofs.Built.Laws as R′
 use Rattle.lent_areas.specs.declared.MemoryArea.{MemoryArea}
 use Rattle.lent_areas.specs.declared.Row.{Row}
-use Rattle.lent_areas.specs.Row.{rowAnswer, rowOf}
+use Rattle.lent_areas.specs.Row.{BuildsRow}
 use Rattle.lent_areas.proofs.Arrays.{whole-lies, whole-read}
 use Rattle.lent_areas.proofs.Values.{vals, n-vals, l-vals, r-vals}
 use Rattle.lent_areas.proofs.MemoryArea as T
@@ -140,11 +138,8 @@ module _ {M : Type 1} (𝓤 : URA M) (H : Heap 𝓤) (A : Atoms 𝓤) (W : Given
   abbrev Post : Val → SProp 𝓤
   Post = walkOf 𝓤 H A f.ended stayed (f.clauses 𝓤 H A at-mem run) .post ((tt, tt, tt, x, at), tt)
 
-  abbrev areas : List Interval
-  areas = areasOf 4096 low high h
-
   abbrev Says : Built → List MemoryArea → Type 0
-  Says r zs = (r ≡ rowAnswer areas (length ys)) × (zs ≡ rowOf areas ys)
+  Says r zs = BuildsRow 4096 h low high ys zs r
 
   abbrev d : Built → List MemoryArea → Row
   d r zs = record { areas = zs; answer = r }
@@ -159,7 +154,7 @@ module _ {M : Type 1} (𝓤 : URA M) (H : Heap 𝓤) (A : Atoms 𝓤) (W : Given
   exits r zs e r-is is =
       qed W (‵ ftrue ∷ []) ∵
       suffices ! _ (ends-at 𝓤 H A f.ended stayed (f.clauses 𝓤 H A at-mem run) W ((tt, tt, tt, x, at), tt) (mach r zs) (d r zs) (tt, (tt, (tt, (tt, tt)))) (tt, (tt, (tt, (tt, tt))))) $
-      says ! (e .0 ∙ ap (rowAnswer areas) len, e .1) $
+      says ! e $
       nothing ! $ owned ! L.the-row (Is L.the-row) (EL.makes L.the-type L′.the-plain 𝓤 H A) high (l-vals high) high-is $ fjoin ! $ owned ! L.the-row (Is L.the-row) (EL.makes L.the-type L′.the-plain 𝓤 H A) low (l-vals low) low-is $ fjoin ! $ owned ! N.the-row (Is N.the-row) (LL.makes N.the-type N′.the-plain 𝓤 H A) h (n-vals h) h-is $ fjoin ! $
       owned ! Arr (Is Arr) (array-makes 𝓤 H A W T.the-row (LL.makes T.the-type T′.the-plain 𝓤 H A) 512) ys (a-vals ys) was $ fjoin ! $ owned ! S.the-row (Is S.the-row) (LL.makes S.the-type S′.the-plain 𝓤 H A) (d r zs) _ (d-is r zs r-is is) $ move ! (2 ∷ 1 ∷ 0 ∷ []) $ done !
 
