@@ -1,2 +1,3 @@
 pub mod Demand
 pub mod Refusal
+pub mod Slots

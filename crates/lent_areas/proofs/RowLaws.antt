@@ -35,11 +35,11 @@ length-laid row slots zero = refl
 length-laid row slots (suc n) = length-set (laid row slots n) n (areaAt slots n) ∙ length-laid row slots n
 
 -- what stands for an area past the last
-abbrev none : Interval
+abbrev pub none : Interval
 none = interval 0 0
 
 -- pair i of the areas' numbers is area i
-flat-at : (areas : List Interval) (i : ℕ) → i < length areas → areaAt (flat areas) i ≡ areaOf (getD areas i none)
+pub flat-at : (areas : List Interval) (i : ℕ) → i < length areas → areaAt (flat areas) i ≡ areaOf (getD areas i none)
 unfolding flat
 flat-at [] i h = absurd (omega arith)
 flat-at (r ∷ areas) zero h = refl
