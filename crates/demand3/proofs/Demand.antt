@@ -5,25 +5,31 @@ use mathlib.Core.Logic.{_↔_}
 use Prim.Native.Nat.{ℕ}
 use native.Mathlib.Omega.{arith}
 use Rattle.page.specs.Round.{Page}
+use Rattle.entry.specs.declared.MemoryEntry.{MemoryEntry}
 use Rattle.entry.specs.declared.BootloaderMemoryKind.the-variants.{Free}
 use Rattle.entry.specs.Kind.{numberOf}
 use Rattle.entry.specs.Claim.{Claim}
 use Rattle.entry.proofs.ClaimLaws.{rounded-kind, free-inward, other-outward}
+use Rattle.memory.specs.declared.MemoryMap.{MemoryMap}
 use Rattle.memory.specs.Map.{slotsOf, at, blank}
 use Rattle.memory.specs.Made.{Made}
 use Rattle.memory.proofs.MapLaws.{blank-made}
 use Rattle.memory.proofs.RunLaws.{all-made}
+use Rattle.listing.specs.Listing.{held}
 use Rattle.runs.specs.Sets.{Registers, Some}
 use Rattle.runs.proofs.Sets.{plain-sets}
 use Rattle.areas.specs.declared.Limit.{Limit}
 use Rattle.areas.specs.declared.Built.{Built}
 use Rattle.areas.specs.Interval.{Interval, Listed}
-use Rattle.areas.specs.Areas.{limitOf}
-use Rattle.areas.specs.Table.{answerOf, tableOf, Builds}
+use Rattle.areas.specs.Areas.{limitOf, areasIn, areasOf}
+use Rattle.areas.specs.Table.{Form, answerFor, lentAfter, BuildsIn, numbers, Builds}
 use Rattle.areas.proofs.Lists.{Every}
 use Rattle.areas.proofs.Normal.{one-list}
 use Rattle.areas.proofs.MadeLaws.{LiesFree, LiesBusy, Whole, areasOf-ascends, areasOf-listed, areasOf-pages}
-use Rattle.demand3.specs.Rule.{Accepted, mapAfter, areasAfter, FreeOver, OtherOver, Rule, SameClaims, Shape}
+use Rattle.lent_areas.specs.declared.MemoryArea.{MemoryArea}
+use Rattle.lent_areas.specs.Row.{records, BuildsRow}
+use Rattle.demand3.specs.Rule.{Accepted, mapAfter, areasAfter, FreeOver, OtherOver, Rule, SameClaims, SameLimits, Shape}
+use Rattle.demand3.proofs.Refusal.{in-numbers, in-records}
 
 -- every run makes a map
 pub after-made : (p : ℕ) (cs : List Claim) → Page p → Made p (mapAfter p cs)
@@ -123,10 +129,9 @@ rule-same p low high cs ds x e r =
       others = λ s. r .others (some-same _ ds cs (λ c. (e c .1, e c .0)) s);
     }
 
--- THEOREM 4, any order: the same registrations in any two orders, none refused, under the same limits, give the same areas
-pub any-order : (p : ℕ) (low high : Limit) (cs ds : List Claim) → Page p → Accepted p cs → Accepted p ds → SameClaims cs ds
+same-order : (p : ℕ) (low high : Limit) (cs ds : List Claim) → Page p → Accepted p cs → Accepted p ds → SameClaims cs ds
     → areasAfter p low high cs ≡ areasAfter p low high ds
-any-order p low high cs ds g a b e =
+same-order p low high cs ds g a b e =
     one-list _ _ (areas-shape p low high cs g .ascend) (areas-shape p low high ds g .ascend)
     (λ x.
     let r = address-rule p low high cs g a x in
@@ -135,12 +140,31 @@ any-order p low high cs ds g a b e =
       λ i. r .1 (rule-same p low high ds cs x (λ c. (e c .1, e c .0)) (q .0 i)),
     ))
 
--- so two builds answer alike, and leave the same numbers in the same slots
-pub any-order-built : (p : ℕ) (low high : Limit) (cs ds : List Claim) → Page p → Accepted p cs → Accepted p ds → SameClaims cs ds
-    → (l l₁ l₂ : List ℕ) (r₁ r₂ : Built) → Builds p (mapAfter p cs) low high l l₁ r₁ → Builds p (mapAfter p ds) low high l l₂ r₂
-    → (r₁ ≡ r₂) × (l₁ ≡ l₂)
-any-order-built p low high cs ds g a b e l l₁ l₂ r₁ r₂ x y =
-    let q = any-order p low high cs ds g a b e in (
-      x .answer ∙ ap (λ (areas : List Interval). answerOf areas l) q ∙ sym (y .answer),
-      x .table ∙ ap (λ (areas : List Interval). tableOf areas l) q ∙ sym (y .table),
-    )
+-- the limits count only as they are rounded
+same-limits : (p : ℕ) (low high low′ high′ : Limit) (m : MemoryMap) → SameLimits p low high low′ high′ → areasOf p low high m ≡ areasOf p low′ high′ m
+unfolding areasOf
+same-limits p low high low′ high′ m e = ap (λ (limits : MemoryEntry). areasIn limits (held m)) e
+
+module _ (p : ℕ) (low high low′ high′ : Limit) (cs ds : List Claim) (g : Page p) (a : Accepted p cs) (b : Accepted p ds)
+    (limits : SameLimits p low high low′ high′) (e : SameClaims cs ds) where
+  -- THEOREM 4, any order: the same registrations in any two orders, none refused, under limits that round to the same, give the same areas
+  pub any-order : areasAfter p low high cs ≡ areasAfter p low′ high′ ds
+  any-order = same-order p low high cs ds g a b e ∙ same-limits p low high low′ high′ (mapAfter p ds) limits
+
+  -- so two builds answer alike, and leave the same in the same slots, whatever form these have
+  any-order-lent : {A : Type 0} (f : Form A) (l l₁ l₂ : List A) (r₁ r₂ : Built)
+      → BuildsIn f (areasAfter p low high cs) l l₁ r₁ → BuildsIn f (areasAfter p low′ high′ ds) l l₂ r₂ → (r₁ ≡ r₂) × (l₁ ≡ l₂)
+  any-order-lent f l l₁ l₂ r₁ r₂ x y = (
+    x .answer ∙ ap (λ (areas : List Interval). answerFor (f .slots l) areas) any-order ∙ sym (y .answer),
+    x .after ∙ ap (λ (areas : List Interval). lentAfter f areas l) any-order ∙ sym (y .after),
+  )
+
+  -- "the finished areas are the same bytes each time": the same numbers
+  pub any-order-built : (l l₁ l₂ : List ℕ) (r₁ r₂ : Built)
+      → Builds p (mapAfter p cs) low high l l₁ r₁ → Builds p (mapAfter p ds) low′ high′ l l₂ r₂ → (r₁ ≡ r₂) × (l₁ ≡ l₂)
+  any-order-built l l₁ l₂ r₁ r₂ x y = any-order-lent numbers l l₁ l₂ r₁ r₂ (in-numbers x) (in-numbers y)
+
+  -- and the same records
+  pub any-order-row : (row row₁ row₂ : List MemoryArea) (r₁ r₂ : Built)
+      → BuildsRow p (mapAfter p cs) low high row row₁ r₁ → BuildsRow p (mapAfter p ds) low′ high′ row row₂ r₂ → (r₁ ≡ r₂) × (row₁ ≡ row₂)
+  any-order-row row row₁ row₂ r₁ r₂ x y = any-order-lent records row row₁ row₂ r₁ r₂ (in-records x) (in-records y)

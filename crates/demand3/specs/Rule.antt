@@ -15,7 +15,7 @@ use Rattle.memory.specs.Run.{registeredAll}
 use Rattle.runs.specs.Sets.{Some}
 use Rattle.areas.specs.declared.Limit.{Limit}
 use Rattle.areas.specs.Interval.{Interval, Ascending}
-use Rattle.areas.specs.Areas.{orElse, areasOf}
+use Rattle.areas.specs.Areas.{orElse, limitOf, areasOf}
 
 -- "If no call is refused": the run from the empty map, one registration after the other, is done
 abbrev pub Accepted : ℕ → List Claim → Type 0
@@ -52,6 +52,10 @@ pub record Rule (p : ℕ) (low high : Limit) (cs : List Claim) (x : ℕ) : Type 
 -- "Deal the registrations of all sources together in any order": the same registrations, however they are dealt
 abbrev pub SameClaims : List Claim → List Claim → Type 0
 SameClaims cs ds = (c : Claim) → List·Memᴰ c cs ↔ List·Memᴰ c ds
+
+-- two pairs of limits that round to the same: so do a missing low and a low of 0, and a missing high and any high in the top page
+abbrev pub SameLimits : ℕ → Limit → Limit → Limit → Limit → Type 0
+SameLimits p low high low′ high′ = limitOf p low high ≡ limitOf p low′ high′
 
 -- whole pages, that end at T at most
 pub record WholePages (p : ℕ) (r : Interval) : Type 0 where
