@@ -1,18 +1,20 @@
 -- What carving gives: the ways that one reservation cuts, which addresses are left, that the pieces ascend inside the area,
 -- and the equation that `add_memory` is. Assumes nothing.
 use mathlib.Core.Path.{_≡_, refl, ap₂, sym, _∙_}
-use mathlib.Core.List.{List, [], _∷_, _++_}
+use mathlib.Core.List.{List, [], _∷_, _++_, List·Memᴰ, List·Memᴰ·head, List·Memᴰ·tail}
 use mathlib.Core.Logic.{_⊎_, inl, inr, ⊎-elim}
 use Prim.Native.Nat.{ℕ, zero, suc, _+_, _-_, _≤_, _<_}
 use native.Mathlib.Omega.{arith}
 use native.Mathlib.Nat.{le-refl}
+use lib.ListN.{length}
 use borrow.Author.Tests.{le-ltb, lt-ltb, le-leb, lt-leb}
 use Rattle.areas.specs.Interval.{Interval, Inside, Listed}
 use Rattle.areas.specs.declared.Cut.{Cut}
 use Rattle.areas.specs.declared.Cut.the-variants.{Gone, Rest, Split}
-use Rattle.areas.specs.Carve.{cutBy, after, walk, carveBy, carve}
+use Rattle.areas.specs.Carve.{cutBy, after, walk, carveBy, carve, afterNests, walkNests, Nests}
 use Rattle.areas.specs.Steps.{Solid}
 use Rattle.areas.proofs.Lists.{le-or-lt, listed-append, listed-left, listed-right}
+use Rattle.areas.proofs.Starting.{starting, starting-most, starting-less}
 
 -- which cut a nonempty r makes of a nonempty [s, e)
 pub data CutOf (r : Interval) (s e : ℕ) : Cut → Type 0 where
@@ -158,33 +160,50 @@ carve-chain all s e solid some = carveBy-chain (e - s) all s e solid some (omega
 
 -- ── Depth enough is depth enough: carve's own equation ──
 
-module _ (s₀ e₀ : ℕ) (left left′ : ℕ → ℕ → List Interval) (same : (a b : ℕ) → a < b → s₀ ≤ a → b < e₀ → left a b ≡ left′ a b) where
-  after-same : (r : Interval) (s e : ℕ) → r .lo < r .hi → s < e → s₀ ≤ s → e ≤ e₀ → (go go′ : ℕ → ℕ → List Interval) → ((a b : ℕ) → a < b → s₀ ≤ a → b ≤ e₀ → go a b ≡ go′ a b) → (c : Cut) → CutOf r s e c → after left go c ≡ after left′ go′ c
-  after-same r s e solid some lo hi go go′ ok c (is-gone p q) = refl
-  after-same r s e solid some lo hi go go′ ok c (is-before p) = ok s e some lo hi
-  after-same r s e solid some lo hi go go′ ok c (is-after p) = ok s e some lo hi
-  after-same r s e solid some lo hi go go′ ok c (is-left p q t) = ok s (r .lo) p lo (omega arith)
-  after-same r s e solid some lo hi go go′ ok c (is-right p q t) = ok (r .hi) e t (omega arith) hi
-  after-same r s e solid some lo hi go go′ ok c (is-split p q) =
-      ap₂ (λ (l m : List Interval). l ++ m) (same s (r .lo) p lo (omega arith)) (ok (r .hi) e q (omega arith) hi)
+-- the left carver is asked only for a piece that ends where a reservation starts, inside the area
+module _ (all : List Interval) (s₀ e₀ : ℕ) (left left′ : ℕ → ℕ → List Interval)
+    (same : (r : Interval) (a : ℕ) → List·Memᴰ r all → a < r .lo → s₀ ≤ a → r .lo < e₀ → left a (r .lo) ≡ left′ a (r .lo)) where
+  after-same : (r : Interval) (s e : ℕ) → List·Memᴰ r all → r .lo < r .hi → s < e → s₀ ≤ s → e ≤ e₀ → (go go′ : ℕ → ℕ → List Interval) → ((a b : ℕ) → a < b → s₀ ≤ a → b ≤ e₀ → go a b ≡ go′ a b) → (c : Cut) → CutOf r s e c → after left go c ≡ after left′ go′ c
+  after-same r s e m solid some lo hi go go′ ok c (is-gone p q) = refl
+  after-same r s e m solid some lo hi go go′ ok c (is-before p) = ok s e some lo hi
+  after-same r s e m solid some lo hi go go′ ok c (is-after p) = ok s e some lo hi
+  after-same r s e m solid some lo hi go go′ ok c (is-left p q t) = ok s (r .lo) p lo (omega arith)
+  after-same r s e m solid some lo hi go go′ ok c (is-right p q t) = ok (r .hi) e t (omega arith) hi
+  after-same r s e m solid some lo hi go go′ ok c (is-split p q) =
+      ap₂ (λ (l m : List Interval). l ++ m) (same r s m p lo (omega arith)) (ok (r .hi) e q (omega arith) hi)
 
-  walk-same : (rs : List Interval) (s e : ℕ) → s < e → s₀ ≤ s → e ≤ e₀ → Solid rs → walk left rs s e ≡ walk left′ rs s e
+  walk-same : (rs : List Interval) (s e : ℕ) → ((r : Interval) → List·Memᴰ r rs → List·Memᴰ r all) → s < e → s₀ ≤ s → e ≤ e₀ → Solid rs → walk left rs s e ≡ walk left′ rs s e
   unfolding walk
-  walk-same [] s e some lo hi solid = refl
-  walk-same (r ∷ rs) s e some lo hi solid =
-      after-same r s e (solid .0) some lo hi (λ a b. walk left rs a b) (λ a b. walk left′ rs a b) (λ a b ab al bh. walk-same rs a b ab al bh (solid .1)) (cutBy r s e) (cutOf r s e (solid .0) some)
+  walk-same [] s e sub some lo hi solid = refl
+  walk-same (r ∷ rs) s e sub some lo hi solid =
+      after-same r s e (sub r (List·Memᴰ·head refl)) (solid .0) some lo hi (λ a b. walk left rs a b) (λ a b. walk left′ rs a b)
+      (λ a b ab al bh. walk-same rs a b (λ q m. sub q (List·Memᴰ·tail m)) ab al bh (solid .1)) (cutBy r s e) (cutOf r s e (solid .0) some)
 
-carveBy-same : (k j : ℕ) (all : List Interval) (s e : ℕ) → Solid all → s < e → e ≤ s + k → e ≤ s + j → carveBy k all s e ≡ carveBy j all s e
+-- what may bound the depth: where it is none there is no area, and it falls with each piece on the left
+record Bounds (all : List Interval) (D : ℕ → ℕ → ℕ → Type 0) : Type 0 where
+  some : (s e : ℕ) → s < e → D zero s e → ⊥
+  less : (k s e a : ℕ) (r : Interval) → List·Memᴰ r all → s ≤ a → a < r .lo → r .lo < e → D (suc k) s e → D k a (r .lo)
+
+carveBy-same : (all : List Interval) (D E : ℕ → ℕ → ℕ → Type 0) → Bounds all D → Bounds all E → Solid all → (k j s e : ℕ) → s < e → D k s e → E j s e → carveBy k all s e ≡ carveBy j all s e
 unfolding carveBy
-carveBy-same zero j all s e solid some deep deep′ = absurd (omega arith)
-carveBy-same (suc k) zero all s e solid some deep deep′ = absurd (omega arith)
-carveBy-same (suc k) (suc j) all s e solid some deep deep′ =
-    walk-same s e (λ a b. carveBy k all a b) (λ a b. carveBy j all a b) (λ a b ab sa be. carveBy-same k j all a b solid ab (omega arith) (omega arith)) all s e some (le-refl s) (le-refl e) solid
+carveBy-same all D E b c solid zero j s e some deep deep′ = absurd (b .some s e some deep)
+carveBy-same all D E b c solid (suc k) zero s e some deep deep′ = absurd (c .some s e some deep′)
+carveBy-same all D E b c solid (suc k) (suc j) s e some deep deep′ =
+    walk-same all s e (λ a b. carveBy k all a b) (λ a b. carveBy j all a b)
+    (λ r a m ab sa be. carveBy-same all D E b c solid k j a (r .lo) ab (b .less k s e a r m sa ab be deep) (c .less j s e a r m sa ab be deep′))
+    all s e (λ r m. m) some (le-refl s) (le-refl e) solid
+
+-- an area's size is depth enough
+abbrev Sized : ℕ → ℕ → ℕ → Type 0
+Sized k s e = e ≤ s + k
+
+by-size : (all : List Interval) → Bounds all Sized
+by-size all = record { some = λ s e h d. omega arith; less = λ k s e a r m sa ab be d. omega arith }
 
 -- carve at any depth that is enough
 carve-by : (k : ℕ) (all : List Interval) (s e : ℕ) → Solid all → s < e → e ≤ s + k → carve all s e ≡ carveBy k all s e
 unfolding carve
-carve-by k all s e solid some deep = carveBy-same (e - s) k all s e solid some (omega arith) deep
+carve-by k all s e solid some deep = carveBy-same all Sized Sized (by-size all) (by-size all) solid (e - s) k s e some (omega arith) deep
 
 carveBy-suc : (k : ℕ) (all : List Interval) (s e : ℕ) → carveBy (suc k) all s e ≡ walk (λ a b. carveBy k all a b) all s e
 unfolding carveBy
@@ -194,4 +213,46 @@ carveBy-suc k all s e = refl
 pub carve-eq : (all : List Interval) (s e : ℕ) → Solid all → s < e → carve all s e ≡ walk (λ a b. carve all a b) all s e
 carve-eq all s e solid some =
     carve-by (suc e) all s e solid some (omega arith) ∙ carveBy-suc e all s e
-    ∙ walk-same s e (λ a b. carveBy e all a b) (λ a b. carve all a b) (λ a b ab sa be. sym (carve-by e all a b solid ab (omega arith))) all s e some (le-refl s) (le-refl e) solid
+    ∙ walk-same all s e (λ a b. carveBy e all a b) (λ a b. carve all a b) (λ r a m ab sa be. sym (carve-by e all a (r .lo) solid ab (omega arith))) all s e (λ r m. m) some (le-refl s) (le-refl e) solid
+
+-- ── So is the number of reservations: each piece on the left has one fewer that starts inside ──
+abbrev Started : List Interval → ℕ → ℕ → ℕ → Type 0
+Started all k s e = starting all s e < k
+
+by-starts : (all : List Interval) → Bounds all (Started all)
+by-starts all = record { some = λ s e h d. omega arith; less = λ k s e a r m sa ab be d. omega (arith, starting-less all s e a r m sa ab be) }
+
+-- carving that may call itself as deep as there are reservations, and no deeper, gives all the pieces
+pub depth-enough : (all : List Interval) (s e : ℕ) → Solid all → s < e → carveBy (suc (length all)) all s e ≡ carve all s e
+unfolding carve
+depth-enough all s e solid some =
+    carveBy-same all (Started all) Sized (by-starts all) (by-size all) solid (suc (length all)) (e - s) s e some (omega (arith, starting-most all s e)) (omega arith)
+
+-- and the calls nest no deeper
+module _ (all : List Interval) (s₀ e₀ : ℕ) (left : ℕ → ℕ → Type 0) (ok : (r : Interval) (a : ℕ) → List·Memᴰ r all → a < r .lo → s₀ ≤ a → r .lo < e₀ → left a (r .lo)) where
+  after-nests : (r : Interval) (s e : ℕ) → List·Memᴰ r all → r .lo < r .hi → s < e → s₀ ≤ s → e ≤ e₀ → (go : ℕ → ℕ → Type 0) → ((a b : ℕ) → a < b → s₀ ≤ a → b ≤ e₀ → go a b) → (c : Cut) → CutOf r s e c → afterNests left go c
+  after-nests r s e m solid some lo hi go more c (is-gone p q) = tt
+  after-nests r s e m solid some lo hi go more c (is-before p) = more s e some lo hi
+  after-nests r s e m solid some lo hi go more c (is-after p) = more s e some lo hi
+  after-nests r s e m solid some lo hi go more c (is-left p q t) = more s (r .lo) p lo (omega arith)
+  after-nests r s e m solid some lo hi go more c (is-right p q t) = more (r .hi) e t (omega arith) hi
+  after-nests r s e m solid some lo hi go more c (is-split p q) = (ok r s m p lo (omega arith), more (r .hi) e q (omega arith) hi)
+
+  walk-nests : (rs : List Interval) (s e : ℕ) → ((r : Interval) → List·Memᴰ r rs → List·Memᴰ r all) → s < e → s₀ ≤ s → e ≤ e₀ → Solid rs → walkNests left rs s e
+  unfolding walkNests
+  walk-nests [] s e sub some lo hi solid = tt
+  walk-nests (r ∷ rs) s e sub some lo hi solid =
+      after-nests r s e (sub r (List·Memᴰ·head refl)) (solid .0) some lo hi (λ a b. walkNests left rs a b)
+      (λ a b ab al bh. walk-nests rs a b (λ q m. sub q (List·Memᴰ·tail m)) ab al bh (solid .1)) (cutBy r s e) (cutOf r s e (solid .0) some)
+
+nests : (all : List Interval) (D : ℕ → ℕ → ℕ → Type 0) → Bounds all D → Solid all → (k s e : ℕ) → s < e → D k s e → Nests k all s e
+unfolding Nests
+nests all D b solid zero s e some deep = b .some s e some deep
+nests all D b solid (suc k) s e some deep =
+    walk-nests all s e (λ a b. Nests k all a b)
+    (λ r a m ab sa be. nests all D b solid k a (r .lo) ab (b .less k s e a r m sa ab be deep)) all s e (λ r m. m) some (le-refl s) (le-refl e) solid
+
+-- so the stack never holds more frames of `add_memory` than there are entries that are not Free, and one. A map holds 512 entries, and where
+-- there is an area to carve one of them is Free: 512 frames
+pub depth-most : (all : List Interval) (s e : ℕ) → Solid all → s < e → Nests (suc (length all)) all s e
+depth-most all s e solid some = nests all (Started all) (by-starts all) solid (suc (length all)) s e some (omega (arith, starting-most all s e))

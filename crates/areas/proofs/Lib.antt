@@ -1,5 +1,6 @@
 pub mod Lists
 pub mod Normal
+pub mod Starting
 pub mod CarveLaws
 pub mod SortLaws
 pub mod AreasLaws

@@ -3,14 +3,14 @@
 use mathlib.Core.Path.{_≡_, ap}
 use mathlib.Core.List.{List, [], _∷_, map}
 use mathlib.Core.Bool.{Bool, true, false, not}
-use mathlib.Core.Logic.{_⊎_, inl, inr, _↔_}
-use Prim.Native.Nat.{ℕ, _≤_, _<_}
+use mathlib.Core.Logic.{_⊎_, inl, inr, ⊎-elim, _↔_}
+use Prim.Native.Nat.{ℕ, _+_, _≤_, _<_}
 use native.Mathlib.Omega.{arith}
 use lib.Dec.{eqb}
 use lib.ListN.{length, take}
 use borrow.Author.Tests.{eq-eqb, ne-eqb, eqb-true, eqb-false, not-true}
 use Rattle.page.specs.Round.{top, Aligned, Page}
-use Rattle.page.proofs.Laws.{up-aligned, down-aligned, min-of, max-of}
+use Rattle.page.proofs.Laws.{page-gap, up-aligned, down-aligned, min-of, max-of}
 use Rattle.entry.specs.declared.MemoryEntry.{MemoryEntry}
 use Rattle.entry.specs.declared.BootloaderMemoryKind.the-variants.{Free}
 use Rattle.entry.specs.Kind.{numberOf}
@@ -23,8 +23,8 @@ use Rattle.listing.specs.Listing.{held, wants, those}
 use Rattle.areas.specs.declared.Limit.{Limit}
 use Rattle.areas.specs.Interval.{Interval, Listed, Ascending}
 use Rattle.areas.specs.Areas.{limitOf, span, freeOf, busyOf, areasIn, areasOf}
-use Rattle.areas.specs.Steps.{Solid, entriesOf}
-use Rattle.areas.proofs.Lists.{Every, every-map, every-weaker}
+use Rattle.areas.specs.Steps.{All, Solid, Long, entriesOf}
+use Rattle.areas.proofs.Lists.{le-or-lt, Every, every-map, every-weaker}
 use Rattle.areas.proofs.SortLaws.{Off, Apart}
 use Rattle.areas.proofs.AreasLaws.{Sound, areas-ascend, areas-listed}
 use Rattle.areas.proofs.Edges.{Edged, CutTo, areas-edges}
@@ -32,9 +32,9 @@ use Rattle.areas.proofs.Count.{areas-few}
 use Rattle.areas.proofs.Those.{entries-length, every-those, those-apart, those-listed}
 use Rattle.areas.proofs.Entries.{takes-entries}
 
-solid-every : (l : List Interval) → Every (λ r. r .lo < r .hi) l → Solid l
-solid-every [] h = tt
-solid-every (r ∷ l) h = (h .0, solid-every l (h .1))
+every-all : (P : Interval → Type 0) (l : List Interval) → Every P l → All P l
+every-all P [] h = tt
+every-all P (r ∷ l) h = (h .0, every-all P l (h .1))
 
 -- the address x lies in a held entry whose kind has K
 pub record Lies (K : ℕ → Type 0) (x : ℕ) (m : MemoryMap) : Type 0 where
@@ -85,10 +85,23 @@ module _ {p : ℕ} {m : MemoryMap} (made : Made p m) where
   each-held : (t : MemoryEntry → Bool) (P : MemoryEntry → Type 0) → ((j : ℕ) → j < m .size → P (at (slotsOf m) j)) → Every P (those t (held m))
   each-held t P f = every-those t (slotsOf m) P (m .size) 0 (λ j a b h. f j (omega arith))
 
+  -- what every held entry has that is not Free
+  each-busy : (P : Interval → Type 0) → ((j : ℕ) → j < m .size → P (span (at (slotsOf m) j))) → All P (busyOf (held m))
+  each-busy P f =
+      every-all P (busyOf (held m)) (every-map P span (those (wants (numberOf Free) false) (held m)) (each-held (wants (numberOf Free) false) (λ e. P (span e)) f))
+
   held-solid : Solid (busyOf (held m))
-  held-solid =
-      solid-every (busyOf (held m)) (every-map (λ r. r .lo < r .hi) span (those (wants (numberOf Free) false) (held m))
-      (each-held (wants (numberOf Free) false) (λ e. e .start < e .end) (λ j h. made .each j h .some)))
+  held-solid = each-busy (λ r. r .lo < r .hi) (λ j h. made .each j h .some)
+
+  pub held-long : Long p (busyOf (held m))
+  held-long =
+      each-busy (λ r. r .lo + p ≤ r .hi)
+      (λ j h.
+      let e = at (slotsOf m) j in
+      let some : e .start < e .end = made .each j h .some in
+      ⊎-elim (λ (u : e .start + p ≤ e .end). u)
+      (λ (u : e .end < e .start + p). absurd (omega (arith, page-gap p (e .end) (e .start) (made .each j h .to) (made .each j h .from) u)))
+      (le-or-lt (e .start + p) (e .end)))
 
   held-apart : Apart (map span (freeOf (held m)))
   held-apart =

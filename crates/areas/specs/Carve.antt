@@ -47,3 +47,20 @@ carveBy (suc k) all s e = walk (λ a b. carveBy k all a b) all s e
 -- CarveLaws.carve-eq is the equation that `add_memory` is, with no bound in it
 unfoldable pub carve : List Interval → ℕ → ℕ → List Interval
 carve all s e = carveBy (e - s) all s e
+
+-- ── How deep the calls nest ──
+
+-- what is left is carved on; a piece on the left is one call deeper
+abbrev pub afterNests : (ℕ → ℕ → Type 0) → (ℕ → ℕ → Type 0) → Cut → Type 0
+afterNests left go Gone = Unit {0}
+afterNests left go (Rest a b) = go a b
+afterNests left go (Split a b c d) = left a b × go c d
+
+unfoldable pub walkNests : (ℕ → ℕ → Type 0) → List Interval → ℕ → ℕ → Type 0
+walkNests left [] s e = Unit {0}
+walkNests left (r ∷ rs) s e = afterNests left (λ a b. walkNests left rs a b) (cutBy r s e)
+
+-- carving [s, e) makes at most k calls of itself one within the other, the first included
+unfoldable pub Nests : ℕ → List Interval → ℕ → ℕ → Type 0
+Nests zero all s e = ⊥
+Nests (suc k) all s e = walkNests (λ a b. Nests k all a b) all s e
