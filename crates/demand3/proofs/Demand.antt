@@ -2,12 +2,14 @@
 use mathlib.Core.Path.{_≡_, refl, ap, sym, _∙_}
 use mathlib.Core.List.{List, List·Memᴰ, List·Memᴰ·head, List·Memᴰ·tail}
 use mathlib.Core.Logic.{_↔_}
-use Prim.Native.Nat.{ℕ}
+use Prim.Native.Nat.{ℕ, _+_, _-_, _^_, _≤_, _<_}
 use native.Mathlib.Omega.{arith}
-use Rattle.page.specs.Round.{Page}
+use Rattle.page.specs.Round.{top, down, up, Page}
+use Rattle.page.proofs.Laws.{down-le, down-aligned, down-greatest, page-gap, top-aligned}
 use Rattle.entry.specs.declared.MemoryEntry.{MemoryEntry}
 use Rattle.entry.specs.declared.BootloaderMemoryKind.the-variants.{Free}
 use Rattle.entry.specs.Kind.{numberOf}
+use Rattle.entry.specs.Entry.{entry}
 use Rattle.entry.specs.Claim.{Claim}
 use Rattle.entry.proofs.ClaimLaws.{rounded-kind, free-inward, other-outward}
 use Rattle.memory.specs.declared.MemoryMap.{MemoryMap}
@@ -19,9 +21,10 @@ use Rattle.listing.specs.Listing.{held}
 use Rattle.runs.specs.Sets.{Registers, Some}
 use Rattle.runs.proofs.Sets.{plain-sets}
 use Rattle.areas.specs.declared.Limit.{Limit}
+use Rattle.areas.specs.declared.Limit.the-variants.{At, Missing}
 use Rattle.areas.specs.declared.Built.{Built}
 use Rattle.areas.specs.Interval.{Interval, Listed}
-use Rattle.areas.specs.Areas.{limitOf, areasIn, areasOf}
+use Rattle.areas.specs.Areas.{orElse, limitOf, areasIn, areasOf}
 use Rattle.areas.specs.Table.{Form, answerFor, lentAfter, BuildsIn, numbers, Builds}
 use Rattle.areas.proofs.Lists.{Every}
 use Rattle.areas.proofs.Normal.{one-list}
@@ -140,10 +143,35 @@ same-order p low high cs ds g a b e =
       λ i. r .1 (rule-same p low high ds cs x (λ c. (e c .1, e c .0)) (q .0 i)),
     ))
 
--- the limits count only as they are rounded
+-- ── Limits count only as they are rounded ──
+top-under : (p : ℕ) → Page p → top p + p ≡ 2 ^ 64
+unfolding top
+top-under p g = omega (arith, g .small)
+
 same-limits : (p : ℕ) (low high low′ high′ : Limit) (m : MemoryMap) → SameLimits p low high low′ high′ → areasOf p low high m ≡ areasOf p low′ high′ m
 unfolding areasOf
 same-limits p low high low′ high′ m e = ap (λ (limits : MemoryEntry). areasIn limits (held m)) e
+
+-- a missing low is a low of 0
+pub missing-low : (p : ℕ) (high : Limit) → SameLimits p Missing high (At 0) high
+unfolding limitOf
+missing-low p high = refl
+
+-- a missing high is any high in the top page
+pub missing-high : (p : ℕ) (low : Limit) (x : ℕ) → Page p → top p ≤ x → x < 2 ^ 64 → SameLimits p low Missing low (At x)
+unfolding limitOf
+missing-high p low x g from to = ap (λ (end : ℕ). entry (up p (orElse low 0)) end (numberOf Free)) (at-top (2 ^ 64 - 1) last (omega arith) ∙ sym (at-top x from to))
+  where
+    last : top p ≤ 2 ^ 64 - 1
+    last = omega (arith, top-under p g)
+
+    at-top : (y : ℕ) → top p ≤ y → y < 2 ^ 64 → down p y ≡ top p
+    at-top y u v =
+        omega (
+          arith,
+          down-greatest p y (top p) (g .pos) (top-aligned p g) u,
+          page-gap p (down p y) (top p) (down-aligned p y) (top-aligned p g) (omega (arith, down-le p y, top-under p g)),
+        )
 
 module _ (p : ℕ) (low high low′ high′ : Limit) (cs ds : List Claim) (g : Page p) (a : Accepted p cs) (b : Accepted p ds)
     (limits : SameLimits p low high low′ high′) (e : SameClaims cs ds) where

@@ -53,7 +53,8 @@ pub record Rule (p : ℕ) (low high : Limit) (cs : List Claim) (x : ℕ) : Type 
 abbrev pub SameClaims : List Claim → List Claim → Type 0
 SameClaims cs ds = (c : Claim) → List·Memᴰ c cs ↔ List·Memᴰ c ds
 
--- two pairs of limits that round to the same: so do a missing low and a low of 0, and a missing high and any high in the top page
+-- "under the same limits": two pairs that round to the same, as a missing low does with 0, and a missing high with any in the top page
+-- (Demand.missing-low, missing-high)
 abbrev pub SameLimits : ℕ → Limit → Limit → Limit → Limit → Type 0
 SameLimits p low high low′ high′ = limitOf p low high ≡ limitOf p low′ high′
 
