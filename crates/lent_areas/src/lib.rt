@@ -67,7 +67,7 @@ pub fn build(row: &mut [MemoryArea], map: MemoryMap, low: Limit, high: Limit) ->
     ensures { λ r. ⌜ BuildsRow 4096 map low high (now (row .entry)) (now (row .exit)) r ⌝ }
 {
     let t = table_for(map, low, high, row.len());
-    let slots = t.slots;
+    let slots = t.slots; // a local of its own, which each turn lends
     let mut i = 0;
     while i < t.count {
         row[i] = area_of(&slots, i);
