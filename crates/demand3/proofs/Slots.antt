@@ -1,23 +1,23 @@
 -- Demand 3 on the slots that a caller holds: proved once, for any slots of which number i is the i-th area's base and size, and then for
 -- lent numbers and for a lent row of records. Assumes nothing.
-use mathlib.Core.Path.{_≡_, refl, sym, _∙_, ap, ap₂, subst}
+use mathlib.Core.Path.{_≡_, refl, _∙_, ap}
 use mathlib.Core.List.{List, [], _∷_, _++_, map, List·Memᴰ, List·Memᴰ·head, List·Memᴰ·tail}
 use mathlib.Core.Logic.{_↔_, inl, inr}
 use Prim.Native.Nat.{ℕ, zero, suc, _+_, _≤_, _<_}
 use native.Mathlib.Omega.{arith}
 use lib.ListN.{length, getD, length-map, List·getD-append, List·getD-map}
-use Rattle.page.specs.Round.{Page, Aligned}
+use Rattle.page.specs.Round.{Page}
 use Rattle.entry.specs.Claim.{Claim}
 use Rattle.areas.specs.declared.Limit.{Limit}
 use Rattle.areas.specs.declared.Built.the-variants.{Done}
-use Rattle.areas.specs.Interval.{Interval, interval, Inside, Listed, Above}
+use Rattle.areas.specs.Interval.{Interval, Inside, Listed, Above}
 use Rattle.areas.specs.Table.{Form, BuildsIn, flat, numbers, Builds}
 use Rattle.areas.proofs.Writing.{flat-length}
 use Rattle.lent_areas.specs.declared.MemoryArea.{MemoryArea}
 use Rattle.lent_areas.specs.Row.{areaOf, areaAt, records, BuildsRow}
 use Rattle.lent_areas.proofs.RowLaws.{none, flat-at}
 use Rattle.demand3.specs.Rule.{Accepted, mapAfter, areasAfter, Rule, Shape}
-use Rattle.demand3.specs.Slots.{numberSlot, recordSlot, ListedIn, WholeSlot, SlotsRight}
+use Rattle.demand3.specs.Slots.{numberSlot, recordSlot, SlotsRight}
 use Rattle.demand3.proofs.Demand.{address-rule, areas-shape}
 use Rattle.demand3.proofs.Refusal.{answers, in-numbers, in-records}
 
