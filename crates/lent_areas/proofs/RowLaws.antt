@@ -92,7 +92,7 @@ laid-finished areas row t d = go (leb (length areas) (length row)) refl
 
 -- ── The table that the areas are built in ──
 
-pub few-areas : {m : MemoryMap} → Made 4096 m → (low high : Limit) → length (areasOf 4096 low high m) ≤ 512
+pub few-areas : {p : ℕ} {m : MemoryMap} → Made p m → (low high : Limit) → length (areasOf p low high m) ≤ 512
 few-areas made low high = omega (arith, areasOf-few made low high, made .room)
 
 module _ (areas : List Interval) (few : length areas ≤ 512) (l : List ℕ) (size : length l ≡ 1024) where
