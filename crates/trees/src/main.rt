@@ -1,11 +1,13 @@
 // Replays a stream of trees on standard input, each with the text that other readers made of it, and says where ours
 // differ. trees/README.md has the layout of the stream and of a text.
 use cells::CellCount;
+use cells::Region;
 use fdt::Blocks;
 use fdt::Opened;
 use fdt::Token;
 use nodes::Found;
 use nodes::Value;
+use reservations::Reservation;
 use stream::Tally;
 
 // The bytes that are held of the stream. The largest tree takes half of them, and its text is short.
@@ -101,43 +103,31 @@ fn is_end(text: &[u8], at: usize) -> bool {
     at == text.len()
 }
 
-fn same_reservation(text: &[u8], from: usize, address: u64, size: u64) -> usize {
+fn same_reservation(text: &[u8], from: usize, entry: Region) -> usize {
     let a = same_bytes(text, from, b"rsv ");
-    let b = same_number(text, a, address);
+    let b = same_number(text, a, entry.address);
     let c = same_byte(text, b, b' ');
-    let d = same_number(text, c, size);
+    let d = same_number(text, c, entry.size);
     same_byte(text, d, b'\n')
 }
 
-// Where the entries of the reservation block begin; past the structure block's start where they are not read.
-fn reservations(b: Blocks) -> usize {
-    let at = b.reservations;
-    if at < 40 {
-        return NONE;
-    }
-    if at % 8 != 0 {
-        return NONE;
-    }
-    at
-}
-
-// The place after the lines of the reservation block.
-fn same_reservations<'a>(blob: &'a [u8], text: &'a [u8], b: Blocks) -> usize {
-    let structure = b.structure;
-    let end = structure.at;
-    let mut at = reservations(b);
+// The place after the lines of the reservation block. An entry takes more than one byte, so there are fewer of them.
+fn same_reservations<'a>(block: &'a [u8], text: &'a [u8]) -> usize {
     let mut p: usize = 0;
-    while at < end {
-        if end - at < 16 {
-            return p;
+    let mut i: usize = 0;
+    while i < block.len() {
+        match reservations::reserved_entry(block, i) {
+            Reservation::Entry(entry) => {
+                p = same_reservation(text, p, entry);
+                i += 1;
+            }
+            Reservation::End => {
+                return p;
+            }
+            Reservation::Past => {
+                return p;
+            }
         }
-        let address = words::be64(blob, at);
-        let size = words::be64(blob, at + 8);
-        if address | size == 0 {
-            return p;
-        }
-        p = same_reservation(text, p, address, size);
-        at += 16;
     }
     p
 }
@@ -714,7 +704,7 @@ fn same_tree<'a>(blob: &'a [u8], text: &'a [u8], b: Blocks) -> u64 {
     let n = b.strings;
     let structure = words::part(blob, s.at, s.len);
     let strings = words::part(blob, n.at, n.len);
-    let from = same_reservations(blob, text, b);
+    let from = same_reservations(reservations::reservation_block(blob, b), text);
     if leads(structure, strings, b"") != NONE {
         return 5;
     }

@@ -1,50 +1,48 @@
 -- `same_reservations` is safe and ends.
 use Prim.Native.Nat.{_-_}
+use lib.ListN.{length}
 use borrow.Author.Needs.{needs}
 use Rattle.trees.proofs.same_reservations.Statement.{statement}
 use Rattle.trees.proofs.same_reservations.Tie as tie
 
 abbrev Inv-loop : tie.InvT-loop
-Inv-loop blob text end at₀ p₀ at p = Unit {0}
+Inv-loop block text p₀ i₀ p i = Unit {0}
 
 abbrev μ-loop : tie.MeasureT-loop
-μ-loop blob text end at₀ p₀ at p = end - at
-
-reservations-requires : tie.Need-reservations-requires Inv-loop μ-loop
-reservations-requires c κs = search needs
+μ-loop block text p₀ i₀ p i = length block - i
 
 loop-holds : tie.Need-loop-holds Inv-loop μ-loop
 loop-holds c = search needs
 
-sub-if1 : tie.Need-sub-if1 Inv-loop μ-loop
-sub-if1 c = search needs
+reserved-entry-requires : tie.Need-reserved-entry-requires Inv-loop μ-loop
+reserved-entry-requires c κs = search needs
 
-returns : tie.Need-returns Inv-loop μ-loop
-returns c = search needs
-
-be64-requires : tie.Need-be64-requires Inv-loop μ-loop
-be64-requires c κs = search needs
-
-add-be64 : tie.Need-add-be64 Inv-loop μ-loop
-add-be64 c = search needs
-
-be64-requires-2 : tie.Need-be64-requires-2 Inv-loop μ-loop
-be64-requires-2 c κs = search needs
-
-returns-2 : tie.Need-returns-2 Inv-loop μ-loop
-returns-2 c = search needs
+enum-known-entry : tie.Need-enum-known-entry Inv-loop μ-loop
+enum-known-entry c = search needs
 
 same-reservation-requires : tie.Need-same-reservation-requires Inv-loop μ-loop
 same-reservation-requires c κs = search needs
 
-add-at : tie.Need-add-at Inv-loop μ-loop
-add-at c = search needs
+add-i : tie.Need-add-i Inv-loop μ-loop
+add-i c = search needs
 
 loop-less : tie.Need-loop-less Inv-loop μ-loop
 loop-less c = search needs
 
 loop-again : tie.Need-loop-again Inv-loop μ-loop
 loop-again c = search needs
+
+enum-told : tie.Need-enum-told Inv-loop μ-loop
+enum-told c = search needs
+
+returns : tie.Need-returns Inv-loop μ-loop
+returns c = search needs
+
+enum-told-2 : tie.Need-enum-told-2 Inv-loop μ-loop
+enum-told-2 c = search needs
+
+returns-2 : tie.Need-returns-2 Inv-loop μ-loop
+returns-2 c = search needs
 
 returns-3 : tie.Need-returns-3 Inv-loop μ-loop
 returns-3 c = search needs
@@ -55,16 +53,15 @@ same-reservations-spec =
     (tie.spec
     Inv-loop
     μ-loop
-    reservations-requires
     loop-holds
-    sub-if1
-    returns
-    be64-requires
-    add-be64
-    be64-requires-2
-    returns-2
+    reserved-entry-requires
+    enum-known-entry
     same-reservation-requires
-    add-at
+    add-i
     loop-less
     loop-again
+    enum-told
+    returns
+    enum-told-2
+    returns-2
     returns-3)
