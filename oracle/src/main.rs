@@ -56,6 +56,9 @@ use std::io::{self, BufWriter, Write};
 // memory.rs and dtb/mod.rs name these from the crate's root.
 use stubs::{arch, devices, dtb, kernel_executable_offsets, memory, startup};
 
+/// The numbers of one case that a reader of the stream has room for.
+const LARGEST: usize = 16_000;
+
 fn put_map(out: &mut Vec<u64>, map: &[rust::Entry]) {
     out.push(map.len() as u64);
     out.extend(map.as_flattened());
@@ -89,6 +92,10 @@ fn words(case: &Case) -> Vec<u64> {
     let build = rust::build(case.low, case.high, case.len);
     out.extend([build.answer, build.count]);
     out.extend(build.numbers);
+    for listing in startup::original::listings() {
+        put_map(&mut out, &listing);
+    }
+    assert!(out.len() <= LARGEST, "a case of {} numbers", out.len());
     out
 }
 

@@ -58,6 +58,16 @@ pub mod startup {
             map.iter().map(|e| [e.start as u64, e.end as u64, e.kind as u64]).collect()
         }
 
+        /// What the held map lists: free, non_free, devices, identity_mapped, and kernel, of one entry at most.
+        pub fn listings() -> [Vec<[u64; 3]>; 5] {
+            fn of<'a>(entries: impl Iterator<Item = &'a MemoryEntry>) -> Vec<[u64; 3]> {
+                entries.map(|e| [e.start as u64, e.end as u64, e.kind as u64]).collect()
+            }
+            let map = unsafe { &*MEMORY_MAP.get() };
+            let kernel = of(map.kernel().into_iter());
+            [of(map.free()), of(map.non_free()), of(map.devices()), of(map.identity_mapped()), kernel]
+        }
+
         /// Makes the map hold these entries.
         pub fn hold(entries: &[[u64; 3]]) {
             let map = unsafe { &mut *MEMORY_MAP.get() };
@@ -128,6 +138,29 @@ pub mod startup {
 
 pub mod dtb {
     include!("original/dtb/mod.rs");
+
+    /// A node and all below it, in document order.
+    fn in_order<'a>(node: FdtNode<'a>, all: &mut Vec<FdtNode<'a>>) {
+        all.push(node);
+        for child in node.children() {
+            in_order(child, all);
+        }
+    }
+
+    /// Where the first `reg` entry of each node leads, the root first, in document order; and how many nodes the Rust
+    /// tried: it asks for the ids of the node and of the target.
+    pub fn translations(tree: &Fdt) -> Vec<Option<(usize, usize)>> {
+        use core::sync::atomic::Ordering::Relaxed;
+        let mut all = Vec::new();
+        in_order(tree.find_node("/").expect("a root"), &mut all);
+        let first = |node: &FdtNode| node.reg()?.iter::<usize, usize>().next()?.ok();
+        let translated = |node: &FdtNode| {
+            fdt::nodes::ASKED.store(0, Relaxed);
+            let address = translate_mmio_address(tree, node, &first(node)?)?;
+            Some((address, fdt::nodes::ASKED.load(Relaxed) / 2))
+        };
+        all.iter().map(translated).collect()
+    }
 }
 
 #[allow(non_snake_case)]

@@ -6,18 +6,19 @@ ghost use lib.ListN.{length};
 ghost use Rattle.memory.specs.Made.{Made};
 use areas::Built;
 use areas::Limit;
+use entry::FoundEntry;
 use memory::MemoryMap;
 use memory::Registered;
 use stream::Tally;
 
 // The bytes that are held of the stream. A case takes less than half of them.
-const SPACE: usize = 131072;
+const SPACE: usize = 262144;
 
 // The numbers that can be lent to a build.
 const SLOTS: usize = 2048;
 
 // Where the parts of a case start: its registrations, their answers, the answer of the list, the three maps, the
-// build, and what comes after the case.
+// build, the five listings, and what comes after the case.
 struct Parts {
     claims: usize,
     answers: usize,
@@ -26,6 +27,11 @@ struct Parts {
     list: usize,
     all: usize,
     built: usize,
+    free: usize,
+    non_free: usize,
+    devices: usize,
+    identity_mapped: usize,
+    kernel: usize,
     end: usize,
 }
 
@@ -48,7 +54,12 @@ fn parts_of(buf: &[u8], at: usize) -> Parts {
     let list = past_map(buf, first);
     let all = past_map(buf, list);
     let built = past_map(buf, all);
-    let end = stream::past(buf, stream::past(buf, built, 2), stream::nth(buf, at, 7));
+    let free = stream::past(buf, stream::past(buf, built, 2), stream::nth(buf, at, 7));
+    let non_free = past_map(buf, free);
+    let devices = past_map(buf, non_free);
+    let identity_mapped = past_map(buf, devices);
+    let kernel = past_map(buf, identity_mapped);
+    let end = past_map(buf, kernel);
     Parts {
         claims,
         answers,
@@ -57,6 +68,11 @@ fn parts_of(buf: &[u8], at: usize) -> Parts {
         list,
         all,
         built,
+        free,
+        non_free,
+        devices,
+        identity_mapped,
+        kernel,
         end,
     }
 }
@@ -226,8 +242,47 @@ fn replay_build(buf: &[u8], at: usize, p: Parts, map: MemoryMap) -> u64
     7
 }
 
+// Whether an entry, or none, stands at a place.
+fn same_entry(buf: &[u8], at: usize, found: FoundEntry) -> bool {
+    match found {
+        FoundEntry::Entry(entry) => {
+            if stream::word(buf, at) != 1 {
+                return false;
+            }
+            stream::is_three(
+                buf,
+                stream::past(buf, at, 1),
+                entry.start,
+                entry.end,
+                entry.kind,
+            )
+        }
+        FoundEntry::Nothing => stream::word(buf, at) == 0,
+    }
+}
+
+// Whether a map lists what stands in a case.
+fn same_listings(buf: &[u8], p: Parts, map: MemoryMap) -> bool
+    requires { ⌜ Made 4096 map ⌝ }
+{
+    if !same_map(buf, p.free, listing::free(map)) {
+        return false;
+    }
+    if !same_map(buf, p.non_free, listing::non_free(map)) {
+        return false;
+    }
+    if !same_map(buf, p.devices, listing::devices(map)) {
+        return false;
+    }
+    if !same_map(buf, p.identity_mapped, listing::identity_mapped(map)) {
+        return false;
+    }
+    same_entry(buf, p.kernel, listing::kernel(map))
+}
+
 // Makes the calls of the case at a place, and answers the first part that differs: 1 a registration's answer, 2 the
-// list's, 3 the map after the first registrations, 4 after the list, 5 after all, 6 the build's answer, 7 the areas.
+// list's, 3 the map after the first registrations, 4 after the list, 5 after all, 6 the build's answer, 7 the areas,
+// 8 a listing of the map after all.
 fn replay_case(buf: &[u8], at: usize, p: Parts) -> u64 {
     let n = stream::word(buf, at);
     let k = stream::nth(buf, at, 1);
@@ -256,7 +311,14 @@ fn replay_case(buf: &[u8], at: usize, p: Parts) -> u64 {
     if !same_map(buf, p.all, all) {
         return 5;
     }
-    replay_build(buf, at, p, all)
+    let part = replay_build(buf, at, p, all);
+    if part != 0 {
+        return part;
+    }
+    if same_listings(buf, p, all) {
+        return 0;
+    }
+    8
 }
 
 // Replays case after case. A proved loop has to end, and nothing says that a stream does, so it counts its turns

@@ -1,10 +1,14 @@
 use crate::properties::{Property, ranges::Ranges, reg::Reg};
 use crate::{Blocks, Parser, Token};
 use core::marker::PhantomData;
+use core::sync::atomic::{AtomicUsize, Ordering::Relaxed};
 
 /// Where a node's content starts: no two nodes share it.
 #[derive(Clone, Copy, PartialEq)]
 pub struct NodeId(usize);
+
+/// How often an id was asked for: twice for each node that the Rust tries as its target.
+pub static ASKED: AtomicUsize = AtomicUsize::new(0);
 
 pub struct Node<'a, P> {
     pub(crate) blocks: Blocks<'a>,
@@ -30,6 +34,8 @@ pub struct RawProperty<'a> {
 
 impl<'a> Node<'a, Parser<'a>> {
     pub fn id(&self) -> NodeId {
+        // The harness has one thread.
+        ASKED.store(ASKED.load(Relaxed) + 1, Relaxed);
         NodeId(self.content)
     }
 
