@@ -171,17 +171,47 @@ def in_soc(soc, address, size):
     return None if ranges(soc) else address
 
 
+def ancestors(node):
+    """Those below the root, nearest first."""
+    while node.parent.parent:
+        node = node.parent
+        yield node
+
+
 def translated(node, address, size):
-    bus, more = node.parent, max(size, 1) - 1
-    while bus.parent:
+    more = max(size, 1) - 1
+    for bus in ancestors(node):
         if ranges(bus) is None:  # there is none, or it is unreadable
             return None
         ways = [parent + address - child for child, parent, length in ranges(bus)
                 if child <= address and address - child < length and more < length - (address - child)]
         if ranges(bus) and not (ways and ways[0] < TOP):
             return None
-        bus, address = bus.parent, ways[0] if ways else address
+        address = ways[0] if ways else address
     return address if address + more < TOP else None
+
+
+def in_order(root):
+    """The nodes in document order: after each come its children, and then its next sibling."""
+    left = [root]
+    while left:
+        yield (node := left.pop(0))
+        left = node.children + left
+
+
+def translations(tree):
+    """Where the first `reg` entry of each node leads, the root first, with the number of nodes tried: the root's first
+    child is 1. A failure gives 0. The root is no node below the root."""
+    try:
+        root = opened(tree)[0] if tree else None
+    except Refused:
+        root = None
+    found = []
+    for place, node in enumerate(in_order(root)) if root else []:
+        entry = (reg(node) or [None])[0] if node.parent else None
+        address = translated(node, *entry) if entry else None
+        found.append((address, place) if address is not None else (0, 0))
+    return found
 
 
 def found(root, path):
@@ -254,7 +284,7 @@ def register(held, base, size, kind):
     return room
 
 
-def model(before, arm, tree):
+def called(before, arm, tree):
     """The answer, the claims up to the first that is refused, and the map."""
     held = []
     assert all(register(held, *claim) for claim in before)
@@ -269,17 +299,25 @@ def model(before, arm, tree):
     return 0, made, after
 
 
+def model(before, arm, tree):
+    """The same, and the translations."""
+    return *called(before, arm, tree), translations(tree)
+
+
 def cases(stream):
     def numbers(count):
         return struct.unpack("<%dQ" % count, stream.read(8 * count))
 
+    def rows_of(width, count):
+        return list(zip(*[iter(numbers(width * count))] * width))
+
     def threes(count):
-        return list(zip(*[iter(numbers(3 * count))] * 3))
+        return rows_of(3, count)
 
     while head := stream.read(32):
         n, arm, size, k = struct.unpack("<4Q", head)
         before, tree = threes(n), stream.read((size + 7) // 8 * 8)[:size]
-        yield before, arm, tree, (*numbers(1), threes(k), threes(*numbers(1)))
+        yield before, arm, tree, (*numbers(1), threes(k), threes(*numbers(1)), rows_of(2, *numbers(1)))
 
 
 def main():
@@ -288,7 +326,7 @@ def main():
         ours = model(before, arm, tree)
         differ += ours != said
         if ours != said and differ <= 5:
-            part = next(x for x in zip(("answer", "claims", "map"), ours, said) if x[1] != x[2])
+            part = next(x for x in zip(("answer", "claims", "map", "translations"), ours, said) if x[1] != x[2])
             print("case %d: %s\n  here %s\n  oracle %s" % (count - 1, *part))
             print("  arm %d, map %s\n  tree %s" % (arm, before, tree.hex()))
     print("cases %d\ndiffer %d" % (count, differ))

@@ -59,6 +59,9 @@ fn bytes(case: &TreeCase, call: &TreeCall) -> Vec<u8> {
         out.numbers(claim);
     }
     out.map(&held());
+    let translated = rust::translations(&case.tree);
+    out.numbers(&[translated.len() as u64]);
+    out.numbers(translated.as_flattened());
     assert!(out.0.len() <= LARGEST, "a case of {} bytes", out.0.len());
     out.0
 }

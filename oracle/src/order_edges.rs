@@ -252,6 +252,15 @@ fn rare() -> Vec<Said> {
         ("an alias of a path: a claim", aliased("/serial")),
         ("an alias of a path without its first /: no claim", aliased("serial")),
         ("an alias of a path with a colon behind it: no claim", aliased("/serial:115200n8")),
+        ("a start of 2^64 on the way of a translation: no claim", with_tree(trees::start_over_the_top().tree)),
+        ("an end past 2^64 on the way of a translation: a claim", with_tree(trees::end_over_the_top().tree)),
+        ("a console below four buses: a claim", with_tree(trees::streets().tree)),
+        ("a /soc that is an interrupt controller: its own claims too", with_tree(trees::soc_is_controller().tree)),
+        (
+            "an unreadable reg of a reserved child that is disabled: no 7",
+            with_tree(trees::unreadable_but_disabled().tree),
+        ),
+        ("a root with a name: 5", with_tree(trees::root_with_a_name().tree)),
     ]
 }
 

@@ -238,6 +238,25 @@ pub fn register_tree(tree: &[u8], arm: bool) -> TreeCall {
     }
 }
 
+/// Of each node in document order, the root first: where the first entry of its `reg` is translated to, and the number
+/// of nodes tried; zeros where there is no address. None of a tree that cannot be opened.
+pub fn translations(tree: &[u8]) -> Vec<[u64; 2]> {
+    if tree.is_empty() || judge(tree).is_err() {
+        return Vec::new();
+    }
+    let words = whole_words(tree);
+    let args = KernelArgs { tree: lent(&words), ..KernelArgs::default() };
+    let mut all = Vec::new();
+    let stop = called_with(tree, || {
+        let (tree, _) = args.dtb().expect("a tree");
+        all = crate::dtb::translations(&tree);
+    });
+    assert_eq!(stop, None);
+    let is_place = |(place, found): (usize, &Option<(usize, usize)>)| found.is_none_or(|(_, tried)| tried == place);
+    assert!(all.iter().enumerate().all(is_place), "the Rust tries other nodes than those up to the target");
+    all.into_iter().map(|found| found.map_or([0, 0], |(address, tried)| [address as u64, tried as u64])).collect()
+}
+
 /// How long the Rust takes to open a tree, handed over in whole words, and to register its claims, with nobody listening.
 #[cfg(feature = "bench")]
 pub fn time_tree(words: &'static [u32]) -> Duration {

@@ -44,11 +44,69 @@ pub fn both_rules(range: [u64; 3], address: u64, size: u64) -> [TreeCase; 3] {
     ]
 }
 
-/// Two buses: on the way through the outer one the region's end is past 2^64, and in the end it is not.
-fn over_the_top() -> TreeCase {
-    let mut root = windowed("inner", [0, T, 0x2000], 0xff8, 16);
+/// Two buses: on the way through the outer one the region's end, or its start too, is past 2^64 - 1, and in the end it
+/// would not be.
+fn over_the_top(address: u64, size: u64) -> TreeCase {
+    let mut root = windowed("inner", [0, T, 0x2000], address, size);
     let outer = node("outer", 2).with("ranges", pairs(&[T, 0x4000_0000, 0x2000])).holding(root.children.drain(..));
     case(&[], root.holding([outer, console("/outer/inner/serial")]))
+}
+
+/// The end alone is past it: on the way nothing is asked of it.
+pub fn end_over_the_top() -> TreeCase {
+    over_the_top(0xff8, 16)
+}
+
+/// The start is 2^64: it must be below that on the way too.
+pub fn start_over_the_top() -> TreeCase {
+    over_the_top(0x1000, 8)
+}
+
+/// Buses within one another, so many of them, each with a device before and one behind the next bus. Each bus leads to
+/// what the one around it takes, so that in another order they lead nowhere. In the end no two nodes meet.
+fn street(name: &str, buses: u64) -> Node {
+    const LENGTH: u64 = 0x10_0000;
+    let mut inner = None;
+    for i in 0..buses {
+        let (from, to, own) = (i * LENGTH, (i + 1) * LENGTH, i * 0x100);
+        let device = |name: &str, at: u64| {
+            Node::new(name).with("compatible", *b"x\0").with("reg", pairs(&[from + own + at, 8]))
+        };
+        let bus = node("bus", 2).with("ranges", pairs(&[from, to, LENGTH])).with("reg", pairs(&[to + own + 0x30, 8]));
+        let next = inner.unwrap_or_else(|| device("inmost", 0x40));
+        inner = Some(bus.holding([device("before", 0x10), next, device("behind", 0x20)]));
+    }
+    Node { name: name.into(), ..inner.expect("a bus") }
+}
+
+/// Buses up to four deep, with devices beside each. The ones in `closed`, which has no `ranges`, lead nowhere, and they
+/// are counted in the places of those behind.
+pub fn streets() -> TreeCase {
+    let closed = node("closed", 2).holding([street("bus", 2)]);
+    case(
+        &[],
+        node("", 2).holding([street("three", 3), closed, street("four", 4), console("/four/bus/bus/bus/behind")]),
+    )
+}
+
+/// A /soc that is an interrupt controller itself, with two devices in it, the second one too. In the root a controller
+/// counts, and in /soc it is a device like another.
+pub fn soc_is_controller() -> TreeCase {
+    let device = |name: &str, page: u32| Node::new(name).with("reg", cells(&[page, 0x1000]));
+    let inner = [device("timer", 0x1000), device("gic", 0x3000).with("interrupt-controller", [])];
+    let soc = node("soc", 1).with("ranges", cells(&[0, 0x4000_0000, 0x10_0000])).with("interrupt-controller", []);
+    let soc = soc.with("reg", cells(&[0x5000, 0x1000, 0x7000, 0x1000]));
+    case(&[], node("", 1).holding([soc.holding(inner)]))
+}
+
+/// A reserved child that does not count, with a `reg` that cannot be read, beside one that counts.
+pub fn unreadable_but_disabled() -> TreeCase {
+    case(&[], reserving([pool(&[3]).with("status", *b"disabled\0"), pool(&[0x1000, 8])]))
+}
+
+/// A tree that is sound but for the name of its root.
+pub fn root_with_a_name() -> TreeCase {
+    case(&[], Node::new("a"))
 }
 
 /// A root with /reserved-memory, which has these children.
@@ -130,12 +188,13 @@ pub fn edges() -> Vec<TreeCase> {
     }
     // The region's own end is past 2^64, and is capped for the soc window.
     cases.extend(both_rules([T, 0x4000_0000, 0xfff], T + 0xff8, 0x100));
-    cases.push(over_the_top());
+    cases.extend([end_over_the_top(), start_over_the_top()]);
     for size in [8, 9] {
         let controller = Node::new("gic").with("interrupt-controller", []).with("reg", pairs(&[T + 0xff8, size]));
         cases.push(case(&[], node("", 2).holding([controller])));
     }
     cases.extend([case(&[], nested(32)), case(&[], nested(33)), endless_name_too_deep(), statuses()]);
+    cases.extend([streets(), soc_is_controller(), unreadable_but_disabled(), root_with_a_name()]);
     cases.extend(refusals());
     cases
 }

@@ -3,9 +3,12 @@
 ghost use Rattle.memory.specs.Made.{Made};
 use fdt::Blocks;
 use fdt::Opened;
+use fdt::Token;
 use memory::MemoryMap;
 use memory::Registered;
 use stream::Tally;
+use translation::Sought;
+use translation::Translated;
 use visit::Claimed;
 use visit::Step;
 
@@ -15,14 +18,15 @@ const SPACE: usize = 131072;
 // No tree takes so many steps: it has no more bytes, and almost every step goes over some of them.
 const STEPS: u64 = 1048576;
 
-// Where the parts of a case start: its registrations, the tree, the answer, the claims, the map, and what comes after
-// the case.
+// Where the parts of a case start: its registrations, the tree, the answer, the claims, the map, the translations, and
+// what comes after the case.
 struct Parts {
     before: usize,
     tree: usize,
     answer: usize,
     claims: usize,
     map: usize,
+    translations: usize,
     end: usize,
 }
 
@@ -34,6 +38,15 @@ fn padded(bytes: u64) -> u64 {
     (bytes + 7) / 8 * 8
 }
 
+// Where the translation of a number stands, of those at a place: behind their count, of two numbers each.
+fn translation_at(buf: &[u8], at: usize, number: u64) -> usize {
+    stream::past(
+        buf,
+        stream::past(buf, stream::past(buf, at, 1), number),
+        number,
+    )
+}
+
 fn parts_of(buf: &[u8], at: usize) -> Parts {
     let before = stream::past(buf, at, 4);
     let tree = stream::past_threes(buf, before, stream::word(buf, at));
@@ -41,13 +54,15 @@ fn parts_of(buf: &[u8], at: usize) -> Parts {
     let answer = stream::forward(buf, tree, padded(bytes));
     let claims = stream::past(buf, answer, 1);
     let map = stream::past_threes(buf, claims, stream::nth(buf, at, 3));
-    let end = stream::past_threes(buf, stream::past(buf, map, 1), stream::word(buf, map));
+    let translations = stream::past_threes(buf, stream::past(buf, map, 1), stream::word(buf, map));
+    let end = translation_at(buf, translations, stream::word(buf, translations));
     Parts {
         before,
         tree,
         answer,
         claims,
         map,
+        translations,
         end,
     }
 }
@@ -207,6 +222,82 @@ fn tree_claims<'a>(
     }
 }
 
+// Whether an address and the number of nodes tried stand at a place; zeros stand for none.
+fn is_translated(buf: &[u8], at: usize, found: Translated) -> bool {
+    if stream::nth(buf, at, 1) != found.number() as u64 {
+        return false;
+    }
+    match found {
+        Translated::Found(region, _) => stream::word(buf, at) == region.address,
+        Translated::NoAddress => stream::word(buf, at) == 0,
+    }
+}
+
+// The same of the first `reg` entry of a node.
+fn same_translation<'a>(
+    buf: &'a [u8],
+    at: usize,
+    structure: &'a [u8],
+    strings: &'a [u8],
+    node: usize,
+) -> bool {
+    let found = translation::translate_mmio_address(structure, strings, node, Sought::FirstReg);
+    is_translated(buf, at, found)
+}
+
+// Whether the first `reg` entries of all nodes of a tree's blocks, the root first, are translated as it stands at a
+// place. The nodes come in document order, as their tokens do. A proved loop has to end, so the steps are counted down.
+fn same_translations<'a>(buf: &'a [u8], at: usize, structure: &'a [u8], strings: &'a [u8]) -> bool {
+    let mut place: usize = 0;
+    let mut seen: u64 = 0;
+    let mut steps = STEPS;
+    while 0 < steps {
+        steps -= 1;
+        match fdt::token_at(structure, strings, place) {
+            Token::Begin(_, next) => {
+                let there = translation_at(buf, at, seen);
+                if !same_translation(buf, there, structure, strings, place) {
+                    return false;
+                }
+                seen += 1;
+                place = next;
+            }
+            Token::EndNode(next) => {
+                place = next;
+            }
+            Token::Prop(_, _, _, next) => {
+                place = next;
+            }
+            Token::Nop(next) => {
+                place = next;
+            }
+            Token::Fin => {
+                return seen == stream::word(buf, at);
+            }
+            Token::Bad => {
+                return false;
+            }
+        }
+    }
+    false
+}
+
+// The same of a tree's bytes. What cannot be opened has no nodes.
+fn tree_translations<'a>(buf: &'a [u8], at: usize, tree: &'a [u8]) -> bool {
+    match fdt::open_tree(tree) {
+        Opened::Tree(blocks) => {
+            let b = blocks.structure;
+            let n = blocks.strings;
+            let structure = words::part(tree, b.at, b.len);
+            same_translations(buf, at, structure, words::part(tree, n.at, n.len))
+        }
+        Opened::NoTree => stream::word(buf, at) == 0,
+        Opened::BadHeader => stream::word(buf, at) == 0,
+        Opened::OverLimit => stream::word(buf, at) == 0,
+        Opened::BadStructure => stream::word(buf, at) == 0,
+    }
+}
+
 // Whether a tree claims what stands at a place, by the answer: all of it where that is 0, up to the refused claim where
 // it is 2. A tree that is refused itself has no claims there, and ours are not looked at.
 fn answered_claims<'a>(
@@ -230,7 +321,7 @@ fn answered_claims<'a>(
 }
 
 // Makes the calls of the case at a place, and answers the first part that differs: 1 the answer, 2 a claim or the number
-// of claims, 3 the map.
+// of claims, 3 the map, 4 a translated address, the number of nodes tried, or the number of nodes.
 fn replay_case(buf: &[u8], at: usize) -> u64 {
     let p = parts_of(buf, at);
     let tree = words::part(buf, p.tree, stream::nth(buf, at, 2) as usize);
@@ -249,6 +340,9 @@ fn replay_case(buf: &[u8], at: usize) -> u64 {
     let after = r.map;
     if !same_map(buf, p.map, after) {
         return 3;
+    }
+    if !tree_translations(buf, p.translations, tree) {
+        return 4;
     }
     0
 }
