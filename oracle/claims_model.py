@@ -1,5 +1,5 @@
 #!/usr/bin/env python3
-"""A second opinion on the oracle: what document 01 says of a tree's claims, read from its bytes alone.
+"""A second opinion on the oracle: what document 01 says of a tree's claims and translations, read from its bytes alone.
 
     oracle claims SEED COUNT | claims_model.py
 
