@@ -1,0 +1,47 @@
+// Standard input and standard output for programs. A read or a write that fails is told on standard error, with what failed and why.
+// No contract can say which bytes are read or written: it says how many of a space hold what was read.
+ghost use Rattle.standard.specs.Input.{Holds};
+
+// What reading gave: so many bytes at the start of the space; or a read failed, and was told.
+pub enum Input {
+    Held(usize),
+    Failed,
+}
+
+// One read. None where the input has ended.
+fn read_some(space: &mut [u8]) -> Input
+    ensures { λ r. ⌜ Holds (now (space .exit)) r ⌝ }
+{
+    let got = libc::read(libc::STDIN_FILENO, space);
+    if got < 0 {
+        os::fail(b"standard input");
+        return Input::Failed;
+    }
+    Input::Held(io::count(got, space))
+}
+
+// Reads standard input until it ends or the space is full, in however many pieces it comes.
+pub fn read_all(space: &mut [u8]) -> Input
+    ensures { λ r. ⌜ Holds (now (space .exit)) r ⌝ }
+{
+    let mut have: usize = 0;
+    while have < space.len() {
+        let Input::Held(more) = read_some(&mut space[have..]) else {
+            return Input::Failed;
+        };
+        if more == 0 {
+            return Input::Held(have);
+        }
+        have += more;
+    }
+    Input::Held(have)
+}
+
+// Writes all of a text to standard output, and answers whether it was written.
+pub fn write_all(text: &[u8]) -> bool {
+    if io::write_all(libc::STDOUT_FILENO, text) {
+        return true;
+    }
+    os::fail(b"standard output");
+    false
+}
