@@ -1,1 +1,1 @@
-pub mod InputLaws
+pub mod Laws

@@ -1,6 +1,9 @@
 // Standard input and standard output for programs. A read or a write that fails is told on standard error, with what failed and why.
 // No contract can say which bytes are read or written: it says how many of a space hold what was read.
+ghost use Prim.Native.Nat.{_≤_};
+ghost use mathlib.Core.Path.{_≡_};
 ghost use Rattle.standard.specs.Input.{Holds};
+ghost use Rattle.standard.specs.Status.{statusOf};
 
 // What reading gave: so many bytes at the start of the space; or a read failed, and was told.
 pub enum Input {
@@ -8,7 +11,28 @@ pub enum Input {
     Failed,
 }
 
-// One read. None where the input has ended.
+// How a program that reads and then writes ends: all is written; a read failed, and nothing is written; or a write failed.
+pub enum Ending {
+    Written,
+    Unread,
+    Unwritten,
+}
+
+impl Ending {
+    // The exit status.
+    pub fn status(self) -> u8
+        ensures { λ r. ⌜ r ≡ statusOf self ⌝ }
+        ensures { λ r. ⌜ r ≤ 2 ⌝ }
+    {
+        match self {
+            Ending::Written => 0,
+            Ending::Unread => 1,
+            Ending::Unwritten => 2,
+        }
+    }
+}
+
+// One read. It holds nothing where the input has ended.
 fn read_some(space: &mut [u8]) -> Input
     ensures { λ r. ⌜ Holds (now (space .exit)) r ⌝ }
 {
@@ -37,11 +61,11 @@ pub fn read_all(space: &mut [u8]) -> Input
     Input::Held(have)
 }
 
-// Writes all of a text to standard output, and answers whether it was written.
-pub fn write_all(text: &[u8]) -> bool {
+// Writes all of a text to standard output.
+pub fn write_all(text: &[u8]) -> Ending {
     if io::write_all(libc::STDOUT_FILENO, text) {
-        return true;
+        return Ending::Written;
     }
     os::fail(b"standard output");
-    false
+    Ending::Unwritten
 }

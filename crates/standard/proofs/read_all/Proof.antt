@@ -4,7 +4,7 @@ use mathlib.Core.Path.{_≡_}
 use lib.ListN.{length}
 use borrow.Author.Needs.{needs}
 use Rattle.io.proofs.Counting.{counts}
-use Rattle.standard.proofs.InputLaws.{held}
+use Rattle.standard.proofs.Laws.{held}
 use Rattle.standard.proofs.read_all.Statement.{statement}
 use Rattle.standard.proofs.read_all.Tie as tie
 
