@@ -1,6 +1,7 @@
-/* test STDIN STDOUT: calls the library as a web service would, and compares with what document 01 says. The two files are case S and the
- * text that the document prints for it. Other order files and trees are laid out here by the document's words. */
-#include "wharfthrum.h"
+/* test STDIN STDOUT CASES: calls the library as a web service would, and compares with what document 01 says. The first two files are case S
+ * and the text that the document prints for it; the third has stored order files with their texts. Others are laid out by the
+ * document's words. */
+#include "layout.h"
 #include <stdio.h>
 #include <stdlib.h>
 #include <string.h>
@@ -20,24 +21,10 @@ static void expect(int held, const char *what)
     }
 }
 
-/* ---- bytes ---- */
+/* ---- the calls ---- */
 
-typedef struct {
-    uint8_t at[WHARFTHRUM_FILE + 1];
-    size_t len;
-} Bytes;
-
-static void little(Bytes *b, uint64_t value, unsigned bytes)
-{
-    for (unsigned i = 0; i < bytes; i++)
-        b->at[b->len++] = (uint8_t)(value >> (8 * i));
-}
-
-static void big(Bytes *b, uint32_t value)
-{
-    for (unsigned i = 0; i < 4; i++)
-        b->at[b->len++] = (uint8_t)(value >> (24 - 8 * i));
-}
+static uint64_t slots[NUMBERS];
+static uint8_t text[WHARFTHRUM_TEXT];
 
 static void read_file(Bytes *b, const char *path)
 {
@@ -49,123 +36,6 @@ static void read_file(Bytes *b, const char *path)
     b->len = fread(b->at, 1, sizeof b->at, f);
     fclose(f);
 }
-
-/* ---- order files ---- */
-
-typedef struct {
-    uint64_t base, size, kind;
-} Entry;
-
-enum { KERNEL, ENV, HWDESC, BOOTSTRAP, STACK };
-
-/* flags 0, no limits, the five pairs, a list and a tree */
-static void order(Bytes *b, uint64_t pairs[5][2], const Entry *list, unsigned entries, const Bytes *tree)
-{
-    static uint64_t none[5][2];
-    if (!pairs)
-        pairs = none;
-    b->len = 0;
-    memcpy(b->at, "GBO", 3);
-    b->len = 3;
-    little(b, 1, 2);
-    little(b, 0, 1);
-    little(b, entries, 2);
-    little(b, 0, 8);
-    little(b, 0, 8);
-    for (unsigned i = 0; i < 5; i++) {
-        little(b, pairs[i][0], 8);
-        little(b, pairs[i][1], 8);
-    }
-    little(b, tree ? tree->len : 0, 4);
-    little(b, 0, 4);
-    for (unsigned i = 0; i < entries; i++) {
-        little(b, list[i].base, 8);
-        little(b, list[i].size, 8);
-        little(b, list[i].kind, 8);
-    }
-    if (tree) {
-        memcpy(b->at + b->len, tree->at, tree->len);
-        b->len += tree->len;
-    }
-}
-
-/* ---- trees ---- */
-
-static const char names[] = "#address-cells\0#size-cells\0ranges\0reg";
-
-static void begin(Bytes *b, const char *name)
-{
-    big(b, 1);
-    size_t bytes = strlen(name) + 1;
-    memcpy(b->at + b->len, name, bytes);
-    b->len += bytes;
-    while (b->len % 4)
-        b->at[b->len++] = 0;
-}
-
-static void property(Bytes *b, uint32_t name, uint32_t bytes, const uint8_t *value)
-{
-    big(b, 3);
-    big(b, bytes);
-    big(b, name);
-    memcpy(b->at + b->len, value, bytes);
-    b->len += bytes;
-    while (b->len % 4)
-        b->at[b->len++] = 0;
-}
-
-static void one_cell_each(Bytes *b)
-{
-    property(b, 0, 4, (const uint8_t *)"\0\0\0\1");
-    property(b, 15, 4, (const uint8_t *)"\0\0\0\1");
-}
-
-static void ranges(Bytes *b, uint32_t bytes)
-{
-    static const uint8_t zeros[16];
-    property(b, 27, bytes, zeros);
-}
-
-static void reg(Bytes *b, uint32_t bytes)
-{
-    static const uint8_t zeros[16];
-    property(b, 34, bytes, zeros);
-}
-
-static void ends(Bytes *b, unsigned count)
-{
-    while (count--)
-        big(b, 2);
-}
-
-/* a header of version 17, a reservation block of its end alone, the structure and the strings */
-static void tree(Bytes *b, const Bytes *structure, uint32_t magic)
-{
-    uint32_t at = 40 + 16;
-    uint32_t strings = at + (uint32_t)structure->len;
-    b->len = 0;
-    big(b, magic);
-    big(b, strings + sizeof names);
-    big(b, at);
-    big(b, strings);
-    big(b, 40);
-    big(b, 17);
-    big(b, 16);
-    big(b, 0);
-    big(b, sizeof names);
-    big(b, (uint32_t)structure->len);
-    little(b, 0, 8);
-    little(b, 0, 8);
-    memcpy(b->at + b->len, structure->at, structure->len);
-    b->len += structure->len;
-    memcpy(b->at + b->len, names, sizeof names);
-    b->len += sizeof names;
-}
-
-/* ---- the calls ---- */
-
-static uint64_t slots[NUMBERS];
-static uint8_t text[WHARFTHRUM_TEXT];
 
 static int untouched(size_t from)
 {
@@ -288,6 +158,7 @@ static void shares(void)
 
 static void refusals(void)
 {
+    static const uint8_t zeros[16];
     static const Entry unknown[1] = {{0, 0, 4}};
     static Entry many[513];
 
@@ -362,9 +233,9 @@ static void refusals(void)
         one_cell_each(&structure);
         begin(&structure, "reserved-memory");
         one_cell_each(&structure);
-        ranges(&structure, 0);
+        property(&structure, RANGES, 0, zeros);
         begin(&structure, "a");
-        reg(&structure, bytes);
+        property(&structure, REG, bytes, zeros);
         ends(&structure, 3);
         big(&structure, 9);
         tree(&blob, &structure, 0xd00dfeed);
@@ -381,9 +252,9 @@ static void refusals(void)
         one_cell_each(&structure);
         begin(&structure, "soc");
         one_cell_each(&structure);
-        ranges(&structure, bytes);
+        property(&structure, RANGES, bytes, zeros);
         begin(&structure, "a");
-        reg(&structure, 8);
+        property(&structure, REG, 8, zeros);
         ends(&structure, 3);
         big(&structure, 9);
         tree(&blob, &structure, 0xd00dfeed);
@@ -395,15 +266,142 @@ static void refusals(void)
     }
 }
 
+/* Whether a file's areas and pages are these, in its build and in its text, and its number 0. A share of no Free page has no bits. */
+static int gives(const Bytes *file, unsigned count, const uint64_t areas[][2], uint64_t free, uint64_t usable, uint64_t share)
+{
+    char said[256];
+    int n = snprintf(said, sizeof said, "areas %u\n", count);
+    for (unsigned i = 0; i < count; i++)
+        n += snprintf(said + n, sizeof said - n, "%016llx %016llx\n", (unsigned long long)areas[i][0], (unsigned long long)areas[i][1]);
+    n += snprintf(said + n, sizeof said - n, "pages %llu %llu ", (unsigned long long)free, (unsigned long long)usable);
+    snprintf(said + n, sizeof said - n, free ? "%016llx\n" : "none\n", (unsigned long long)share);
+    WharfthrumReport r = build(file, NUMBERS);
+    int held = r.number == 0 && r.count == count && r.free == free && r.usable == usable;
+    held = held && r.has_share == (free != 0) && bits_of(r.share) == share;
+    held = held && memcmp(slots, areas, count * sizeof areas[0]) == 0 && untouched(2 * count);
+    held = held && wharfthrum_number(file->at, file->len) == 0;
+    return held && prints_words(file, said);
+}
+
+/* "low up, high down, missing low 0, missing high 2^64 - 1", on 16 Free pages from 0 with the kernel in the fourth */
+static void limits(void)
+{
+    static const Entry list[1] = {{0, 0x10000, 1}};
+    static const uint64_t all[2][2] = {{0, 0x3000}, {0x4000, 0xc000}};
+    static const uint64_t from_two[2][2] = {{0x2000, 0x1000}, {0x4000, 0xc000}};
+    static const uint64_t to_five[2][2] = {{0, 0x3000}, {0x4000, 0x1000}};
+    static const uint64_t both[2][2] = {{0x2000, 0x1000}, {0x4000, 0x1000}};
+    uint64_t pairs[5][2] = {{0}};
+    pairs[KERNEL][0] = 0x3000, pairs[KERNEL][1] = 0x1000;
+
+    order_under(&file, 0, 0, 0, pairs, list, 1, NULL);
+    expect(gives(&file, 2, all, 16, 15, UINT64_C(0x3fee000000000000)), "no limits");
+    order_under(&file, LOW, 0x1001, 0, pairs, list, 1, NULL);
+    expect(gives(&file, 2, from_two, 14, 13, UINT64_C(0x3fedb6db6db6db6e)), "low, rounded up");
+    order_under(&file, HIGH, 0, 0x5fff, pairs, list, 1, NULL);
+    expect(gives(&file, 2, to_five, 5, 4, UINT64_C(0x3fe999999999999a)), "high, rounded down");
+    order_under(&file, LOW | HIGH, 0x1001, 0x5fff, pairs, list, 1, NULL);
+    expect(gives(&file, 2, both, 3, 2, UINT64_C(0x3fe5555555555555)), "both");
+    order_under(&file, LOW | HIGH, 0x2000, 0x5000, pairs, list, 1, NULL);
+    expect(gives(&file, 2, both, 3, 2, UINT64_C(0x3fe5555555555555)), "both, on whole pages");
+    order_under(&file, LOW | HIGH, 0, UINT64_MAX, pairs, list, 1, NULL);
+    expect(gives(&file, 2, all, 16, 15, UINT64_C(0x3fee000000000000)), "both, where a missing one would be");
+    order_under(&file, LOW | HIGH, 0x3000, 0x4000, pairs, list, 1, NULL);
+    expect(gives(&file, 0, NULL, 1, 0, 0), "both, around the kernel: no area");
+    order_under(&file, LOW | HIGH, 1, 0x1fff, pairs, list, 1, NULL);
+    expect(gives(&file, 0, NULL, 0, 0, 0), "limits 1 and 0x1fff: no area");
+    order_under(&file, HIGH, 0, 0, pairs, list, 1, NULL);
+    expect(gives(&file, 0, NULL, 0, 0, 0), "high 0: no area");
+
+    order_under(&file, HIGH, 0x1000, 0x5000, pairs, list, 1, NULL);
+    refuses(&file, 9, "9: low that is not flagged");
+    order_under(&file, LOW, 0x1000, 0x5000, pairs, list, 1, NULL);
+    refuses(&file, 9, "9: high that is not flagged");
+    order_under(&file, 8, 0, 0, pairs, list, 1, NULL);
+    refuses(&file, 9, "9: another flag");
+}
+
+/* a tree of a model, with one device of /soc, in the second page */
+static void board(const char *model)
+{
+    structure.len = 0;
+    begin(&structure, "");
+    one_cell_each(&structure);
+    string(&structure, MODEL, model);
+    begin(&structure, "soc");
+    one_cell_each(&structure);
+    property(&structure, RANGES, 0, "");
+    begin(&structure, "a");
+    property(&structure, REG, 8, "\0\0\x10\0\0\0\x10");
+    ends(&structure, 3);
+    big(&structure, 9);
+    tree(&blob, &structure, 0xd00dfeed);
+}
+
+/* "If the build is for 64-bit ARM and the root's `model` contains `linux,dummy-virt`": two fixed ranges, "and nothing else" */
+static void arm(void)
+{
+    static const Entry list[1] = {{0, 0x50000000, 1}};
+    static const uint64_t ranges[2][2] = {{0, 0x8000000}, {0x40000000, 0x10000000}};
+    static const uint64_t device[2][2] = {{0, 0x1000}, {0x2000, 0x4fffe000}};
+    static const uint64_t both[2][2] = {{0x2000, 0x7ffe000}, {0x40000000, 0x10000000}};
+
+    board("linux,dummy-virt");
+    order_under(&file, ARM, 0, 0, NULL, list, 1, &blob);
+    expect(gives(&file, 2, ranges, 0x50000, 0x18000, UINT64_C(0x3fd3333333333333)), "ARM, a virtual board: the two ranges");
+    order_under(&file, 0, 0, 0, NULL, list, 1, &blob);
+    expect(gives(&file, 2, device, 0x50000, 0x4ffff, UINT64_C(0x3feffff99999999a)), "not ARM, a virtual board: its device");
+    order_under(&file, ARM | LOW, 0x1001, 0, NULL, list, 1, &blob);
+    expect(gives(&file, 2, both, 0x4fffe, 0x17ffe, UINT64_C(0x3fd3332147a6e976)), "ARM, a virtual board, from a low limit");
+    board("qemu,linux,dummy-virt,8");
+    order_under(&file, ARM, 0, 0, NULL, list, 1, &blob);
+    expect(gives(&file, 2, ranges, 0x50000, 0x18000, UINT64_C(0x3fd3333333333333)), "ARM, a model that contains it");
+    board("linux,dummy-vir");
+    order_under(&file, ARM, 0, 0, NULL, list, 1, &blob);
+    expect(gives(&file, 2, device, 0x50000, 0x4ffff, UINT64_C(0x3feffff99999999a)), "ARM, another board: its device");
+}
+
+/* The stored order files: the text of each, and the number that its text tells. A frame is a length in 64 bits and as many bytes. */
+static int frame(FILE *f, Bytes *b)
+{
+    uint8_t length[8];
+    if (fread(length, 1, 8, f) != 8)
+        return 0;
+    b->len = length[0] + 256 * length[1] + 65536 * (size_t)length[2];
+    return b->len <= sizeof b->at && fread(b->at, 1, b->len, f) == b->len;
+}
+
+static void stored_cases(const char *path)
+{
+    FILE *f = fopen(path, "rb");
+    if (!f) {
+        perror(path);
+        exit(2);
+    }
+    while (frame(f, &file)) {
+        if (!frame(f, &stored)) {
+            expect(0, "a stored case that is cut off");
+            break;
+        }
+        uint64_t number = stored.at[0] == 'r' ? (uint64_t)(stored.at[8] - '0') : 0;
+        int held = wharfthrum_number(file.at, file.len) == number && build(&file, NUMBERS).number == number;
+        expect(held && prints(&file, stored.at, stored.len), "a stored case");
+    }
+    fclose(f);
+}
+
 int main(int argc, char **argv)
 {
-    if (argc != 3) {
-        fprintf(stderr, "usage: test STDIN STDOUT\n");
+    if (argc != 4) {
+        fprintf(stderr, "usage: test STDIN STDOUT CASES\n");
         return 2;
     }
     case_s(argv[1], argv[2]);
     shares();
+    limits();
+    arm();
     refusals();
+    stored_cases(argv[3]);
     printf("C: %u passed, %u failed\n", passed, failed);
     return failed != 0;
 }

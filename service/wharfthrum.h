@@ -1,8 +1,9 @@
-/* The build of document 01 for a web service: an order file in, the area table with its page sheet out.
+/* NO POINTER MAY BE NULL, ALSO WHERE THE LENGTH BESIDE IT IS 0. For an empty file hand over the address of any byte, with 0 bytes. Nothing
+ * in the library looks for a null pointer.
  *
- * Every call answers for all bytes of the file, keeps nothing, and shares nothing with another call: threads may call at once.
- * No pointer may be null, also where the length beside it is 0; slots are aligned as uint64_t is; what one call is lent
- * does not overlap. */
+ * The build of document 01 for a web service: an order file in, the area table with its page sheet out. Every call answers for all bytes
+ * of the file, keeps nothing, and shares nothing with another call: threads may call at once, each with WHARFTHRUM_STACK bytes of stack.
+ * Slots are aligned as uint64_t is; lengths are true; what one call is lent does not overlap. */
 #ifndef WHARFTHRUM_H
 #define WHARFTHRUM_H
 
@@ -19,6 +20,9 @@ extern "C" {
 #define WHARFTHRUM_TEXT 17500
 /* Bytes of the longest order file. A longer one is refused by its length alone, so no more than one byte more need be read. */
 #define WHARFTHRUM_FILE 65536
+/* Bytes of stack for a thread that makes any of the calls. The most that we found is 190 KiB, with the 5 that the thread itself takes: for
+ * wharfthrum_number, on one Free range carved by 511 reservations given from the top down. Measured and not proved: service/stack.c. */
+#define WHARFTHRUM_STACK 262144
 
 /* The numbers, in the order in which they are checked: the first fault decides. */
 enum {
