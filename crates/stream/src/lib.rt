@@ -4,6 +4,7 @@
 ghost use Prim.Native.Nat.{_+_, _*_, _<_};
 ghost use mathlib.Core.Path.{_≡_};
 ghost use Rattle.stream.specs.Cases.{NumberAt, Three, Tells, Ahead, none, andCase};
+use standard::Input;
 
 // How many cases there were, how many of them differ, and the first that does, counted from 0, with its part. `cut` says
 // that the stream ended, or made no sense, in the midst of a case.
@@ -108,12 +109,16 @@ fn shift(space: &mut [u8], at: usize, have: usize) -> usize {
     n
 }
 
-// Fills the space behind its first `have` bytes from standard input, and answers how many there are then.
+// Fills the space behind its first `have` bytes from standard input, and answers how many there are then. A read that fails is told, and
+// is then the end of the stream.
 fn fill(space: &mut [u8], have: usize) -> usize {
     if space.len() <= have {
         return have;
     }
-    have + io::read_full(libc::STDIN_FILENO, &mut space[have..])
+    let Input::Held(more) = standard::read_all(&mut space[have..]) else {
+        return have;
+    };
+    have + more
 }
 
 // Reads on: the bytes from `at` up to `have` go to the front, and behind them come as many as there are and have room.
