@@ -10,6 +10,7 @@ use Rattle.entry.specs.declared.MemoryEntry.{MemoryEntry}
 use Rattle.entry.specs.Entry.{Has}
 use Rattle.memory.specs.Map.{Slots, at}
 use Rattle.listing.specs.Listing.{entriesFrom, those}
+use Rattle.listing.proofs.ListingLaws.{those-ways}
 use Rattle.areas.specs.Interval.{Inside, Listed}
 use Rattle.areas.specs.Areas.{span}
 use Rattle.areas.proofs.Lists.{Every, every-map, le-or-lt}
@@ -23,15 +24,6 @@ module _ (t : MemoryEntry → Bool) (e : MemoryEntry) (es : List MemoryEntry) wh
   pub those-skips : t e ≡ false → those t (e ∷ es) ≡ those t es
   unfolding those
   those-skips h = rw h
-
--- a fact of those that pass of e ∷ es, from the test's two ways
-those-ways : (t : MemoryEntry → Bool) (e : MemoryEntry) (es : List MemoryEntry) (P : List MemoryEntry → Type 0)
-    → (t e ≡ true → P (e ∷ those t es)) → (t e ≡ false → P (those t es)) → P (those t (e ∷ es))
-those-ways t e es P f g = go (t e) refl
-  where
-    go : (b : Bool) → t e ≡ b → P (those t (e ∷ es))
-    go true h = rw (those-takes t e es h) (f h)
-    go false h = rw (those-skips t e es h) (g h)
 
 pub entries-length : (l : Slots) (n i : ℕ) → length (entriesFrom l n i) ≡ n
 unfolding entriesFrom
