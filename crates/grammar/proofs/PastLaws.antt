@@ -12,10 +12,11 @@ use borrow.Author.Tests.{le-leb, ne-eqb, leb-true, leb-false}
 use Rattle.words.specs.Bytes.{word, partOf}
 use Rattle.words.proofs.BytesLaws.{part-length, part-byte}
 use Rattle.fdt.specs.Header.{totalsize, GoodHeader, goodHeader, structureOf, stringsOf}
-use Rattle.fdt.specs.Opening.{blocksOf, openedOf}
+use Rattle.fdt.specs.Opening.{openedNumber, blocksOf, openedOf}
 use Rattle.fdt.proofs.HeaderLaws.{good-header}
 use Rattle.fdt.proofs.VerdictLaws.{says-header}
 use Rattle.grammar.specs.Past.{SameFront}
+use Rattle.grammar.proofs.OpeningLaws.{number-4}
 use Rattle.grammar.proofs.VeilLaws.{word-same}
 
 module _ (s t : List ℕ) (d : SameFront s t) where
@@ -69,7 +70,11 @@ module _ (s t : List ℕ) (d : SameFront s t) where
           let g = good-header s .0 h in
           rw (ne-eqb _ _ zs, ne-eqb _ _ zt, front-structure g, front-strings g, front-blocks, front-test, front-word 4 (omega arith))
 
--- the first totalsize bytes begin so, or are all that there is. With a totalsize of 0 they would be no tree, where the header is broken
+-- a totalsize that does not hold the header is refused, whatever comes after it
+pub past-short : (s : List ℕ) → totalsize s < 40 → (length s ≡ 0 → ⊥) → openedNumber (openedOf s) ≡ 4
+past-short s h n = number-4 s .1 (n, λ g. omega (arith, g .some))
+
+-- of any other, the first totalsize bytes begin so, or are all that there is
 pub front-of : (s : List ℕ) → 40 ≤ totalsize s → SameFront s (take (totalsize s) s) ⊎ (s ≡ take (totalsize s) s)
 front-of s h = go (leb (totalsize s) (length s)) refl
   where

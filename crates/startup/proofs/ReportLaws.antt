@@ -30,7 +30,7 @@ use Rattle.startup.specs.declared.Report.{Report}
 use Rattle.startup.specs.declared.Report.the-variants.{Done, Refused}
 use Rattle.startup.specs.Verdict.{runOf, verdictOf, judgedSources, sourcesOf}
 use Rattle.startup.specs.Report.{finished, reportOf, slotsAfter, Reports, Finishes}
-use Rattle.startup.proofs.SourceLaws.{run-made}
+use Rattle.startup.proofs.SourceLaws.{sources-made}
 use Rattle.startup.proofs.SheetLaws.{usable-fits, table-usable}
 
 -- ── What a build answers ──
@@ -98,8 +98,8 @@ module _ (p : ℕ) (s : List ℕ) (o : Order) (x : Sources) (is : x ≡ sourcesO
       ap (λ (y : Sources). y .map) is
       ∙ ap (λ (v : Verdict). judgedSources (runOf p s o .map) v .map) (sym verdict-is ∙ e)
 
-  pub map-made : Page p → x .verdict ≡ Accepted → Made p (x .map)
-  map-made g e = rw (map-is e) (run-made p g s o)
+  pub map-made : Page p → Made p (x .map)
+  map-made g = rw is (sources-made p g s o)
 
   module _ (l : List ℕ) (read : Layout o ≡ orderOf s) where
     pub reports-refused : (f : Refusal) → x .verdict ≡ Rejected f → Reports p s l l (Refused f)

@@ -23,9 +23,10 @@ use Rattle.dtb.proofs.CallLaws.{tree-made}
 use Rattle.order.specs.declared.Order.{Order}
 use Rattle.startup.specs.declared.Refusal.{Refusal}
 use Rattle.startup.specs.declared.Refusal.the-variants.{UnknownKind, MapFull}
+use Rattle.startup.specs.declared.Verdict.{Verdict}
 use Rattle.startup.specs.declared.Verdict.the-variants.{Accepted, Rejected}
 use Rattle.startup.specs.Sources.{listIn, treeIn, treeClaims, pairClaims, registrations}
-use Rattle.startup.specs.Verdict.{listVerdict, treeVerdict, mapVerdict, runOf, verdictOf, sources, rejection, sourcesOf, treeFault, endedSources}
+use Rattle.startup.specs.Verdict.{listVerdict, treeVerdict, mapVerdict, runOf, verdictOf, sources, rejection, judgedSources, sourcesOf, treeFault, endedSources}
 use Rattle.startup.proofs.ListLaws.{run-refused, list-unknown, list-known, list-runs, list-refused}
 use Rattle.startup.proofs.TreeLaws.{TreeWay, faulty, full, taken, tree-way}
 
@@ -153,3 +154,12 @@ module _ (p : ℕ) (g : Page p) where
 
   pub run-made : (s : List ℕ) (o : Order) → Made p (runOf p s o .map)
   run-made s o = all-made p blank (registrations s o) g (blank-made p)
+
+  -- and so does the whole: the map of the run, or the empty one beside a refusal
+  pub sources-made : (s : List ℕ) (o : Order) → Made p (sourcesOf p s o .map)
+  unfolding sourcesOf
+  sources-made s o = go (verdictOf p s o)
+    where
+      go : (v : Verdict) → Made p (judgedSources (runOf p s o .map) v .map)
+      go Accepted = run-made s o
+      go (Rejected r) = blank-made p

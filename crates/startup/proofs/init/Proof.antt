@@ -28,7 +28,7 @@ finish-requires : tie.Need-finish-requires
 finish-requires c κs =
     let m = c .before in
     let k = m .before .before in
-    map-made 4096 _ _ _ (k .register-memory-from-kernel-args .ensures) page (m .enum-told2 .given .1)
+    map-made 4096 _ _ _ (k .register-memory-from-kernel-args .ensures) page
 
 returns : tie.Need-returns
 returns c = reports-no-order 4096 _ _ (sym (c .enum-told .given .1) ∙ c .before .before .read-order .ensures)
