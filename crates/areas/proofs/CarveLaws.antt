@@ -26,27 +26,27 @@ pub data CutOf (r : Interval) (s e : ℕ) : Cut → Type 0 where
   is-split : s < r .lo → r .hi < e → CutOf r s e (Split s (r .lo) (r .hi) e)
 
 module _ (r : Interval) (s e : ℕ) (solid : r .lo < r .hi) (some : s < e) where
-  gone= : r .lo ≤ s → e ≤ r .hi → cutBy r s e ≡ Gone
+  pub gone= : r .lo ≤ s → e ≤ r .hi → cutBy r s e ≡ Gone
   unfolding cutBy
   gone= p q = simp (lt-ltb (r .lo) e (omega arith), le-leb e (r .hi) q, le-leb (r .lo) s p)
 
-  before= : e ≤ r .lo → cutBy r s e ≡ Rest s e
+  pub before= : e ≤ r .lo → cutBy r s e ≡ Rest s e
   unfolding cutBy
   before= p = simp (le-ltb (r .lo) e p, lt-leb e s some, lt-leb (r .lo) s (omega arith), le-leb s (r .lo) (omega arith))
 
-  after= : r .hi ≤ s → cutBy r s e ≡ Rest s e
+  pub after= : r .hi ≤ s → cutBy r s e ≡ Rest s e
   unfolding cutBy
   after= p = simp (lt-ltb (r .lo) e (omega arith), lt-leb e (r .hi) (omega arith), lt-leb e s some, le-leb (r .lo) s (omega arith), le-ltb s (r .hi) p, lt-leb s (r .lo) (omega arith))
 
-  left= : s < r .lo → r .lo < e → e ≤ r .hi → cutBy r s e ≡ Rest s (r .lo)
+  pub left= : s < r .lo → r .lo < e → e ≤ r .hi → cutBy r s e ≡ Rest s (r .lo)
   unfolding cutBy
   left= p q t = simp (lt-ltb (r .lo) e q, le-leb e (r .hi) t, lt-leb (r .lo) s p, le-leb s (r .lo) (omega arith), le-ltb (r .lo) (r .lo) (omega arith))
 
-  right= : r .lo ≤ s → s < r .hi → r .hi < e → cutBy r s e ≡ Rest (r .hi) e
+  pub right= : r .lo ≤ s → s < r .hi → r .hi < e → cutBy r s e ≡ Rest (r .hi) e
   unfolding cutBy
   right= p q t = simp (lt-ltb (r .lo) e (omega arith), lt-leb e (r .hi) t, lt-leb e s some, le-leb (r .lo) s p, lt-ltb s (r .hi) q, lt-leb (r .hi) (r .lo) solid)
 
-  split= : s < r .lo → r .hi < e → cutBy r s e ≡ Split s (r .lo) (r .hi) e
+  pub split= : s < r .lo → r .hi < e → cutBy r s e ≡ Split s (r .lo) (r .hi) e
   unfolding cutBy
   split= p q = simp (lt-ltb (r .lo) e (omega arith), lt-leb e (r .hi) q, lt-leb e s some, lt-leb (r .lo) s p, le-leb s (r .lo) (omega arith))
 

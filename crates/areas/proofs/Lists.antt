@@ -1,5 +1,5 @@
 -- Lists of intervals: what is said of every element, and what a list holds once two are joined. Assumes nothing.
-use mathlib.Core.List.{List, [], _∷_, _++_, map}
+use mathlib.Core.List.{List, [], _∷_, _++_, map, List·Memᴰ, List·Memᴰ·head, List·Memᴰ·tail}
 use mathlib.Core.Logic.{_⊎_, inl, inr, ⊎-elim}
 use native.Mathlib.Decide.{decLe}
 use native.Mathlib.Omega.{arith}
@@ -22,6 +22,10 @@ module _ {A : Type 0} (P : A → Type 0) where
   pub every-append : (l m : List A) → Every l → Every m → Every (l ++ m)
   every-append [] m s t = t
   every-append (a ∷ l) m s t = (s .0, every-append l m (s .1) t)
+
+pub every-member : {A : Type 0} (P : A → Type 0) (l : List A) → Every P l → (a : A) → List·Memᴰ a l → P a
+every-member P _ e a (List·Memᴰ·head q) = rw q (e .0)
+every-member P _ e a (List·Memᴰ·tail m) = every-member P _ (e .1) a m
 
 pub every-map : {A B : Type 0} (P : B → Type 0) (f : A → B) (l : List A) → Every (λ a. P (f a)) l → Every P (map f l)
 every-map P f [] h = tt

@@ -22,9 +22,10 @@ use Rattle.memory.specs.Made.{Made}
 use Rattle.listing.specs.Listing.{held, wants, those}
 use Rattle.areas.specs.declared.Limit.{Limit}
 use Rattle.areas.specs.Interval.{Interval, Listed, Ascending}
+use Rattle.areas.specs.Shape.{WholePages, Shape}
 use Rattle.areas.specs.Areas.{limitOf, span, freeOf, busyOf, areasIn, areasOf}
 use Rattle.areas.specs.Steps.{All, Solid, Long, entriesOf}
-use Rattle.areas.proofs.Lists.{le-or-lt, Every, every-map, every-weaker}
+use Rattle.areas.proofs.Lists.{le-or-lt, Every, every-member, every-map, every-weaker}
 use Rattle.areas.proofs.SortLaws.{Off, Apart}
 use Rattle.areas.proofs.AreasLaws.{Sound, areas-ascend, areas-listed}
 use Rattle.areas.proofs.Edges.{Edged, CutTo, areas-edges}
@@ -69,12 +70,6 @@ busy-lies m x =
 
 pub held-length : (m : MemoryMap) → length (held m) ≡ m .size
 held-length m = entries-length (slotsOf m) (m .size) 0
-
--- an area of whole pages, that ends at the last page's start at most
-pub record Whole (p : ℕ) (r : Interval) : Type 0 where
-  pub from : Aligned p (r .lo)
-  pub to : Aligned p (r .hi)
-  pub low : r .hi ≤ top p
 
 -- what may be the end of such an area
 abbrev Low : ℕ → ℕ → Type 0
@@ -147,13 +142,17 @@ module _ {p : ℕ} {m : MemoryMap} (made : Made p m) where
     areasOf-few = omega (arith, areas-few (limitOf p low high) (held m) held-sound, held-length m)
 
     -- every area is whole pages
-    pub areasOf-pages : Page p → Every (Whole p) (areasOf p low high m)
+    pub areasOf-pages : Page p → Every (WholePages p) (areasOf p low high m)
     unfolding areasOf limitOf overlap
     areasOf-pages g =
-        every-weaker (Edged (Aligned p) (Low p)) (Whole p) (λ r h. record { from = h .0; to = h .1 .0; low = h .1 .1 }) (areasIn (limitOf p low high) (held m))
+        every-weaker (Edged (Aligned p) (Low p)) (WholePages p) (λ r h. record { from = h .0; to = h .1 .0; low = h .1 .1 }) (areasIn (limitOf p low high) (held m))
         (areas-edges (Aligned p) (Low p) (limitOf p low high) (held m) held-solid
         (every-map (Edged (Low p) (Aligned p)) span (those (wants (numberOf Free) false) (held m))
         (each-held (wants (numberOf Free) false) (λ e. Low p (e .start) × Aligned p (e .end))
         (λ j h. ((made .each j h .from, omega (arith, made .each j h .some, made .each j h .low)), made .each j h .to))))
         (each-held (wants (numberOf Free) true) (CutTo (Aligned p) (Low p) (limitOf p low high))
         (λ j h. (max-of (Aligned p) _ _ (made .each j h .from) (up-aligned p _ g), (min-of (Aligned p) _ _ (made .each j h .to) (down-aligned p _), omega (arith, made .each j h .low))))))
+
+    -- what demand 3 asks of a table
+    pub areasOf-shape : Page p → Shape p (areasOf p low high m)
+    areasOf-shape g = record { ascend = areasOf-ascends; pages = every-member (WholePages p) (areasOf p low high m) (areasOf-pages g) }

@@ -1,4 +1,5 @@
 pub mod Interval
+pub mod Shape
 pub mod Carve
 pub mod Areas
 pub mod Table

@@ -1,6 +1,6 @@
 -- Demand 3: the address rule, the shape of the areas, and that no order of the registrations matters. For every page size. Assumes nothing.
 use mathlib.Core.Path.{_≡_, refl, ap, sym, _∙_}
-use mathlib.Core.List.{List, List·Memᴰ, List·Memᴰ·head, List·Memᴰ·tail}
+use mathlib.Core.List.{List}
 use mathlib.Core.Logic.{_↔_}
 use Prim.Native.Nat.{ℕ, _+_, _-_, _^_, _≤_, _<_}
 use native.Mathlib.Omega.{arith}
@@ -24,14 +24,14 @@ use Rattle.areas.specs.declared.Limit.{Limit}
 use Rattle.areas.specs.declared.Limit.the-variants.{At, Missing}
 use Rattle.areas.specs.declared.Built.{Built}
 use Rattle.areas.specs.Interval.{Interval, Listed}
+use Rattle.areas.specs.Shape.{Shape}
 use Rattle.areas.specs.Areas.{orElse, limitOf, areasIn, areasOf}
 use Rattle.areas.specs.Table.{Form, answerFor, lentAfter, BuildsIn, numbers, Builds}
-use Rattle.areas.proofs.Lists.{Every}
 use Rattle.areas.proofs.Normal.{one-list}
-use Rattle.areas.proofs.MadeLaws.{LiesFree, LiesBusy, Whole, areasOf-ascends, areasOf-listed, areasOf-pages}
+use Rattle.areas.proofs.MadeLaws.{LiesFree, LiesBusy, areasOf-listed, areasOf-shape}
 use Rattle.lent_areas.specs.declared.MemoryArea.{MemoryArea}
 use Rattle.lent_areas.specs.Row.{records, BuildsRow}
-use Rattle.demand3.specs.Rule.{Accepted, mapAfter, areasAfter, FreeOver, OtherOver, Rule, SameClaims, SameLimits, Shape}
+use Rattle.demand3.specs.Rule.{Accepted, mapAfter, areasAfter, FreeOver, OtherOver, Rule, SameClaims, SameLimits}
 use Rattle.demand3.proofs.Refusal.{in-numbers, in-records}
 
 -- every run makes a map
@@ -104,20 +104,9 @@ address-rule p low high cs g done x =
       λ q. r .1 (f .1 (q .free), q .from, q .to, λ o. q .others (b .0 o)),
     )
 
-every-member : (P : Interval → Type 0) (l : List Interval) → Every P l → (r : Interval) → List·Memᴰ r l → P r
-every-member P _ e r (List·Memᴰ·head q) = rw q (e .0)
-every-member P _ e r (List·Memᴰ·tail m) = every-member P _ (e .1) r m
-
 -- THEOREM 3, the shape of the areas: they ascend, are nonempty whole pages, never touch, and end at T at most
 pub areas-shape : (p : ℕ) (low high : Limit) (cs : List Claim) → Page p → Shape p (areasAfter p low high cs)
-areas-shape p low high cs g =
-    let made = after-made p cs g in
-    record {
-      ascend = areasOf-ascends made low high;
-      pages = λ r m.
-          let w = every-member (Whole p) _ (areasOf-pages made low high g) r m in
-          record { from = w .from; to = w .to; low = w .low };
-    }
+areas-shape p low high cs g = areasOf-shape (after-made p cs g) low high g
 
 -- ── Any order ──
 some-same : (P : Claim → Type 0) (cs ds : List Claim) → SameClaims cs ds → Some P cs → Some P ds

@@ -11,12 +11,13 @@ use Rattle.entry.specs.Claim.{Claim}
 use Rattle.areas.specs.declared.Limit.{Limit}
 use Rattle.areas.specs.declared.Built.the-variants.{Done}
 use Rattle.areas.specs.Interval.{Interval, Inside, Listed, Above}
+use Rattle.areas.specs.Shape.{Shape}
 use Rattle.areas.specs.Table.{Form, BuildsIn, flat, numbers, Builds}
 use Rattle.areas.proofs.Writing.{flat-length}
 use Rattle.lent_areas.specs.declared.MemoryArea.{MemoryArea}
 use Rattle.lent_areas.specs.Row.{areaOf, areaAt, records, BuildsRow}
 use Rattle.lent_areas.proofs.RowLaws.{none, flat-at}
-use Rattle.demand3.specs.Rule.{Accepted, mapAfter, areasAfter, Rule, Shape}
+use Rattle.demand3.specs.Rule.{Accepted, mapAfter, areasAfter, Rule}
 use Rattle.demand3.specs.Slots.{numberSlot, recordSlot, SlotsRight}
 use Rattle.demand3.proofs.Demand.{address-rule, areas-shape}
 use Rattle.demand3.proofs.Refusal.{answers, in-numbers, in-records}

@@ -3,7 +3,7 @@ use mathlib.Core.Path.{_≡_}
 use mathlib.Core.List.{List, List·Memᴰ}
 use mathlib.Core.Logic.{_↔_}
 use Prim.Native.Nat.{ℕ, _-_, _^_, _≤_, _<_}
-use Rattle.page.specs.Round.{top, down, up, Aligned}
+use Rattle.page.specs.Round.{down, up}
 use Rattle.entry.specs.declared.BootloaderMemoryKind.the-variants.{Null, Free}
 use Rattle.entry.specs.Kind.{numberOf}
 use Rattle.entry.specs.Entry.{Has}
@@ -14,7 +14,7 @@ use Rattle.memory.specs.Map.{blank}
 use Rattle.memory.specs.Run.{registeredAll}
 use Rattle.runs.specs.Sets.{Some}
 use Rattle.areas.specs.declared.Limit.{Limit}
-use Rattle.areas.specs.Interval.{Interval, Ascending}
+use Rattle.areas.specs.Interval.{Interval}
 use Rattle.areas.specs.Areas.{orElse, limitOf, areasOf}
 
 -- "If no call is refused": the run from the empty map, one registration after the other, is done
@@ -57,14 +57,3 @@ SameClaims cs ds = (c : Claim) → List·Memᴰ c cs ↔ List·Memᴰ c ds
 -- (Demand.missing-low, missing-high)
 abbrev pub SameLimits : ℕ → Limit → Limit → Limit → Limit → Type 0
 SameLimits p low high low′ high′ = limitOf p low high ≡ limitOf p low′ high′
-
--- whole pages, that end at T at most
-pub record WholePages (p : ℕ) (r : Interval) : Type 0 where
-  pub from : Aligned p (r .lo)
-  pub to : Aligned p (r .hi)
-  pub low : r .hi ≤ top p
-
--- "Areas ascend, are nonempty whole pages, and never touch."
-pub record Shape (p : ℕ) (areas : List Interval) : Type 0 where
-  pub ascend : Ascending areas
-  pub pages : (r : Interval) → List·Memᴰ r areas → WholePages p r

@@ -15,9 +15,10 @@ use Rattle.areas.specs.declared.Limit.{Limit}
 use Rattle.areas.specs.declared.Built.the-variants.{Done as BuildDone}
 use Rattle.areas.specs.Interval.{Interval, Listed}
 use Rattle.areas.specs.Areas.{freeOf}
+use Rattle.areas.specs.Shape.{Shape}
 use Rattle.areas.specs.Table.{slotsIn, answerOf, tableOf, Builds}
 use Rattle.areas.proofs.Lists.{le-or-lt}
-use Rattle.demand3.specs.Rule.{Accepted, mapAfter, areasAfter, Rule, SameClaims, SameLimits, Shape}
+use Rattle.demand3.specs.Rule.{Accepted, mapAfter, areasAfter, Rule, SameClaims, SameLimits}
 use Rattle.demand3.specs.Slots.{numberSlot, SlotsRight}
 use Rattle.demand3.proofs.Demand.{address-rule, areas-shape, any-order}
 use Rattle.demand3.proofs.Slots.{build-slots}

@@ -19,7 +19,7 @@ use Rattle.areas.specs.Interval.{Interval, Inside, Listed, Above}
 use Rattle.areas.specs.Areas.{span}
 use Rattle.areas.proofs.Lists.{Every}
 use Rattle.areas.proofs.SortLaws.{Off, Apart}
-use Rattle.areas.proofs.MadeLaws.{Whole}
+use Rattle.areas.specs.Shape.{WholePages}
 use Rattle.sheet.specs.Sheet.{pagesIn, pagesOf, freeIn, usableIn}
 use Rattle.page_count.specs.Pages.{countTo}
 use Rattle.page_count.proofs.Reading.{Reads, same, false-true, and-reads, or-reads, leb-reads, ltb-reads}
@@ -86,14 +86,14 @@ module _ (p n : ℕ) (g : Page p) (all : 2 ^ 64 ≤ n * p) where
       let z : hi ≡ (a + (b - a)) * p = rw (← w) e in
       rw (z, d) (stretch p a (b - a) (g .pos) n (omega arith))
 
-  one-counted : (r : Interval) → Whole p r → r .lo ≤ r .hi → pagesIn p (r .lo) (r .hi) ≡ countTo n (λ i. inside (i * p) r)
+  one-counted : (r : Interval) → WholePages p r → r .lo ≤ r .hi → pagesIn p (r .lo) (r .hi) ≡ countTo n (λ i. inside (i * p) r)
   unfolding top
   one-counted r w le =
       by-number (r .lo) (r .hi) (r .lo / p) (r .hi / p)
       (omega (arith, div-add-mod' (r .lo) p, w .from)) (omega (arith, div-add-mod' (r .hi) p, w .to)) le (omega (arith, w .low))
 
   -- ── A list of intervals that ascend ──
-  pub list-counted : (l : List Interval) (a : ℕ) → Above a l → Every (Whole p) l → usableIn p l ≡ countTo n (λ i. listed (i * p) l)
+  pub list-counted : (l : List Interval) (a : ℕ) → Above a l → Every (WholePages p) l → usableIn p l ≡ countTo n (λ i. listed (i * p) l)
   unfolding usableIn listed
   list-counted [] a h w = sym (count-none n (λ i. false) (λ i e. false-true e))
   list-counted (r ∷ l) a h w =

@@ -14,13 +14,14 @@ use Rattle.areas.specs.Interval.{Interval, Above}
 use Rattle.areas.specs.Areas.{areasOf}
 use Rattle.areas.specs.Table.{flat}
 use Rattle.areas.proofs.Lists.{Every}
-use Rattle.areas.proofs.MadeLaws.{Whole, areasOf-ascends, areasOf-pages}
+use Rattle.areas.specs.Shape.{WholePages}
+use Rattle.areas.proofs.MadeLaws.{areasOf-ascends, areasOf-pages}
 use Rattle.areas.proofs.Writing.{flat-length}
 use Rattle.sheet.specs.Sheet.{usableIn, slotPages, slotsTo}
 use Rattle.sheet.proofs.SheetLaws.{slots-usable}
 
 -- areas that ascend from a on have no more pages than there are addresses up to the last page
-above-few : (p a : ℕ) (l : List Interval) → Above a l → Every (Whole p) l → usableIn p l ≤ top p - a
+above-few : (p a : ℕ) (l : List Interval) → Above a l → Every (WholePages p) l → usableIn p l ≤ top p - a
 unfolding usableIn
 above-few p a [] h w = omega arith
 above-few p a (r ∷ l) h w =

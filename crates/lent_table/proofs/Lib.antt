@@ -1,0 +1,5 @@
+pub mod LessLaws
+pub mod Moving
+pub mod TableLaws
+pub mod Judging
+pub mod Editing

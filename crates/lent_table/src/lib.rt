@@ -1,0 +1,215 @@
+// The finished table where a caller lends it, as numbers: whether it can be one, and taking a range away from its areas in place. Nothing
+// here knows of a map or of a claim.
+ghost use mathlib.Core.Path.{_≡_};
+ghost use mathlib.Core.Bool.{not};
+ghost use Prim.Native.Nat.{_+_, _≤_, _<_};
+ghost use lib.Dec.{leb};
+ghost use lib.ListN.{length};
+ghost use Rattle.areas.specs.Interval.{interval};
+ghost use Rattle.areas.specs.Table.{fits};
+ghost use Rattle.lent_table.specs.Table.{tableIn, goodArea, goodTable};
+ghost use Rattle.lent_table.specs.Less.{less};
+ghost use Rattle.lent_table.specs.Steps.{Past, Inserted, Cleared, Slid, Trims, Trimmed, Rested, Splits, Parted, Edits, Fitting, Edited};
+
+// The start of the last page: no area ends past it.
+const TOP: u64 = 0xffff_ffff_ffff_f000;
+
+// An area of a table: it starts at `least` or above, is nonempty and of whole pages, and ends at T at most.
+fn good_area(least: u64, base: u64, size: u64) -> bool
+    ensures { λ r. ⌜ r ≡ goodArea 4096 least (interval base (base + size)) ⌝ }
+{
+    if base < least {
+        return false;
+    }
+    if size == 0 {
+        return false;
+    }
+    if base % page::PAGE_SIZE != 0 {
+        return false;
+    }
+    if TOP < base {
+        return false;
+    }
+    if TOP - base < size {
+        return false;
+    }
+    (base + size) % page::PAGE_SIZE == 0
+}
+
+// Whether the first n slots can be a finished table: refusal 14 is that they cannot.
+pub fn good_table(slots: &[u64], n: usize) -> bool
+    ensures { λ r. ⌜ r ≡ goodTable 4096 n (now (slots .entry)) ⌝ }
+{
+    if slots.len() / 2 < n {
+        return false;
+    }
+    let mut least: u64 = 0;
+    let mut k: usize = 0;
+    while k < n {
+        let base = slots[k + k];
+        let size = slots[k + k + 1];
+        if !good_area(least, base, size) {
+            return false;
+        }
+        least = base + size + 1;
+        k += 1;
+    }
+    true
+}
+
+// Whether an area ends at x or below. The sum itself may not fit.
+fn ends_by(base: u64, size: u64, x: u64) -> bool
+    ensures { λ r. ⌜ r ≡ leb (base + size) x ⌝ }
+{
+    if x < base {
+        return false;
+    }
+    size <= x - base
+}
+
+// The first slot from `from` on whose area ends past x, or n.
+fn past(slots: &[u64], from: usize, n: usize, x: u64) -> usize
+    requires { ⌜ (from ≤ n) × (n + n ≤ length (now slots)) ⌝ }
+    ensures { λ r. ⌜ Past (now (slots .entry)) from n x r ⌝ }
+{
+    let mut k = from;
+    while k < n {
+        let base = slots[k + k];
+        let size = slots[k + k + 1];
+        if !ends_by(base, size, x) {
+            return k;
+        }
+        k += 1;
+    }
+    k
+}
+
+// Puts x at place `at`, and moves the numbers from there up to `end` one place on.
+fn insert(l: &mut [u64], at: usize, end: usize, x: u64)
+    requires { ⌜ (at ≤ end) × (end < length (now l)) ⌝ }
+    ensures { λ _. ⌜ Inserted (now (l .entry)) at end x (now (l .exit)) ⌝ }
+{
+    let mut carry = x;
+    let mut k = at;
+    while k < end {
+        let next = l[k];
+        l[k] = carry;
+        carry = next;
+        k += 1;
+    }
+    l[k] = carry;
+}
+
+// Zeros in the places from `from` up to `to`.
+fn clear(l: &mut [u64], from: usize, to: usize)
+    requires { ⌜ to ≤ length (now l) ⌝ }
+    ensures { λ _. ⌜ Cleared (now (l .entry)) from to (now (l .exit)) ⌝ }
+{
+    let mut k = from;
+    while k < to {
+        l[k] = 0;
+        k += 1;
+    }
+}
+
+// Moves the numbers from place `from` up to `end` down to place `to`, over zeros, which go behind them.
+fn slide(l: &mut [u64], to: usize, from: usize, end: usize)
+    requires { ⌜ (to ≤ from) × (end ≤ length (now l)) ⌝ }
+    ensures { λ _. ⌜ Slid (now (l .entry)) to from end (now (l .exit)) ⌝ }
+{
+    let mut t = to;
+    let mut f = from;
+    while f < end {
+        let x = l[f];
+        l[f] = 0;
+        l[t] = x;
+        t += 1;
+        f += 1;
+    }
+}
+
+// The area in slot j, where it ends past hi, starts at hi at the earliest.
+fn trim_front(slots: &mut [u64], j: usize, n: usize, hi: u64)
+    requires { ⌜ Trims (now slots) j n hi ⌝ }
+    ensures { λ _. ⌜ Trimmed (now (slots .entry)) j n hi (now (slots .exit)) ⌝ }
+{
+    if n <= j {
+        return;
+    }
+    let base = slots[j + j];
+    if hi <= base {
+        return;
+    }
+    let size = slots[j + j + 1];
+    slots[j + j] = hi;
+    slots[j + j + 1] = size - (hi - base);
+}
+
+// Of the areas from slot i on, takes away what lies below hi: those that are left move down to slot i, and leave zeros.
+fn cut_rest(slots: &mut [u64], i: usize, n: usize, hi: u64) -> usize
+    requires { ⌜ (i ≤ n) × (n + n ≤ length (now slots)) ⌝ }
+    ensures { λ r. ⌜ Rested (now (slots .entry)) i n hi (now (slots .exit)) r ⌝ }
+{
+    let j = past(slots, i, n, hi);
+    trim_front(slots, j, n, hi);
+    clear(slots, i + i, j + j);
+    slide(slots, i + i, j + j, n + n);
+    i + (n - j)
+}
+
+// The area in slot i up to lo, and from hi on as an area of its own: the areas after it move one slot on.
+fn split_at(slots: &mut [u64], i: usize, n: usize, lo: u64, hi: u64)
+    requires { ⌜ Splits (now slots) i n lo hi ⌝ }
+    ensures { λ _. ⌜ Parted (now (slots .entry)) i n lo hi (now (slots .exit)) ⌝ }
+{
+    let base = slots[i + i];
+    let size = slots[i + i + 1];
+    slots[i + i + 1] = lo - base;
+    insert(slots, i + i + 2, n + n, size - (hi - base));
+    insert(slots, i + i + 2, n + n + 1, hi);
+}
+
+// The first n areas less what lies from lo up to hi, where they stand. There is a slot for each.
+pub fn edit(slots: &mut [u64], n: usize, lo: u64, hi: u64) -> usize
+    requires { ⌜ Fitting (interval lo hi) (now slots) n ⌝ }
+    ensures { λ r. ⌜ Edited (interval lo hi) (now (slots .entry)) n (now (slots .exit)) r ⌝ }
+{
+    let i = past(slots, 0, n, lo);
+    if n <= i {
+        return n;
+    }
+    let base = slots[i + i];
+    if hi <= base {
+        return n;
+    }
+    if lo <= base {
+        return cut_rest(slots, i, n, hi);
+    }
+    let size = slots[i + i + 1];
+    if ends_by(base, size, hi) {
+        slots[i + i + 1] = lo - base;
+        return cut_rest(slots, i + 1, n, hi);
+    }
+    split_at(slots, i, n, lo, hi);
+    n + 1
+}
+
+// Whether taking away what lies from lo up to hi makes two areas of one, for which there is no slot.
+pub fn crowded(slots: &[u64], n: usize, lo: u64, hi: u64) -> bool
+    requires { ⌜ Edits (interval lo hi) (now slots) n ⌝ }
+    ensures { λ r. ⌜ r ≡ not (fits (less (interval lo hi) (tableIn n (now (slots .entry)))) (now (slots .entry))) ⌝ }
+{
+    if n < slots.len() / 2 {
+        return false;
+    }
+    let i = past(slots, 0, n, lo);
+    if n <= i {
+        return false;
+    }
+    let base = slots[i + i];
+    if lo <= base {
+        return false;
+    }
+    let size = slots[i + i + 1];
+    !ends_by(base, size, hi)
+}
