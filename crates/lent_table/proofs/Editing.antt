@@ -13,66 +13,13 @@ use Rattle.areas.specs.Interval.{Interval, interval, Above, Ascending}
 use Rattle.areas.specs.Steps.{Solid}
 use Rattle.areas.specs.Table.{flat, slotsIn, fits}
 use Rattle.areas.proofs.Lists.{Every}
-use Rattle.areas.proofs.Writing.{get-past, set-past, get-here, set-here, flat-length, flat-snoc}
+use Rattle.areas.proofs.Writing.{flat-length, flat-snoc}
 use Rattle.lent_table.specs.Table.{tableIn, tableWith}
 use Rattle.lent_table.specs.Less.{less}
 use Rattle.lent_table.specs.Steps.{lead, Past, Inserted, Cleared, Slid, front, Trims, Trimmed, above, Rest, Rested, Splits, Parted, Edits, Fitting, Edited}
-use Rattle.lent_table.proofs.TableLaws.{table-length, fromSlot}
+use Rattle.lent_table.proofs.TableLaws.{table-length, table-flat, flat-append, fromSlot}
+use Rattle.lent_table.proofs.SlotLaws.{double, here, base-is, size-is, set-size, set-both}
 use Rattle.lent_table.proofs.LessLaws.{above-solid, above-lower, less-nil, less-append, less-before, less-after, less-rest, less-short, cons-left, cons-split}
-
--- ── Tables as numbers ──
-pub table-flat : (n : ℕ) (l : List ℕ) → n + n ≤ length l → l ≡ flat (tableIn n l) ++ drop (n + n) l
-unfolding tableIn flat
-table-flat zero l h = refl
-table-flat (suc n) [] h = absurd (omega arith)
-table-flat (suc n) (a ∷ []) h = absurd (omega arith)
-table-flat (suc n) (a ∷ b ∷ l) h =
-    let s : b ≡ a + b - a = omega arith in
-    let t : suc n + suc n ≡ suc (suc (n + n)) = omega arith in
-    ap₂ (λ (i : ℕ) (m : List ℕ). a ∷ i ∷ m) s (table-flat n l (omega arith)) ∙ rw t
-
-pub flat-table : (xs : List Interval) (post : List ℕ) → Solid xs → tableIn (length xs) (flat xs ++ post) ≡ xs
-unfolding tableIn flat
-flat-table [] post s = refl
-flat-table (r ∷ xs) post s =
-    let e : r .lo + (r .hi - r .lo) ≡ r .hi = omega (arith, s .0) in
-    ap₂ (λ (i : ℕ) (m : List Interval). interval (r .lo) i ∷ m) e (flat-table xs post (s .1))
-
-pub flat-append : (a b : List Interval) (c : List ℕ) → flat (a ++ b) ++ c ≡ flat a ++ (flat b ++ c)
-unfolding flat
-flat-append [] b c = refl
-flat-append (r ∷ a) b c = ap (λ (m : List ℕ). r .lo ∷ (r .hi - r .lo) ∷ m) (flat-append a b c)
-
-double : (pre : List Interval) (j : ℕ) → length pre ≡ j → length (flat pre) ≡ j + j
-double pre j e = omega (arith, flat-length pre)
-
--- the areas from slot i on
-module _ (l : List ℕ) (i n : ℕ) (pre xs : List Interval) (post : List ℕ) (lp : length pre ≡ i) (ln : i + length xs ≡ n) (e : l ≡ flat pre ++ (flat xs ++ post)) where
-  here : Solid xs → fromSlot l n i ≡ xs
-  here s =
-      let c : n - i ≡ length xs = omega arith in
-      ap₂ (λ (k : ℕ) (m : List ℕ). tableIn k m) c (ap (λ (m : List ℕ). drop (i + i) m) e ∙ drop-at (flat pre) (flat xs ++ post) (i + i) (double pre i lp))
-      ∙ flat-table xs post s
-
--- the base and the size in slot i, and stores to both
-module _ (l : List ℕ) (i : ℕ) (pre : List Interval) (r : Interval) (more : List Interval) (post : List ℕ) (lp : length pre ≡ i) (e : l ≡ flat pre ++ (flat (r ∷ more) ++ post)) where
-  base-is : getD l (i + i) 0 ≡ r .lo
-  unfolding flat
-  base-is = rw e (get-here (flat pre) (flat (r ∷ more) ++ post) (i + i) (double pre i lp))
-
-  size-is : getD l (i + i + 1) 0 ≡ r .hi - r .lo
-  unfolding flat
-  size-is = rw e (get-past (flat pre) (flat (r ∷ more) ++ post) (i + i) (double pre i lp) 1)
-
-  set-size : (v : ℕ) → set l (i + i + 1) v ≡ flat pre ++ (r .lo ∷ v ∷ (flat more ++ post))
-  unfolding flat
-  set-size v = rw e (set-past (flat pre) (flat (r ∷ more) ++ post) (i + i) (double pre i lp) 1 v)
-
-  set-both : (u v : ℕ) → set (set l (i + i) u) (i + i + 1) v ≡ flat pre ++ (u ∷ v ∷ (flat more ++ post))
-  unfolding flat
-  set-both u v =
-      rw e (ap (λ (m : List ℕ). set m (i + i + 1) v) (set-here (flat pre) (flat (r ∷ more) ++ post) (i + i) (double pre i lp) u)
-      ∙ set-past (flat pre) (u ∷ (r .hi - r .lo) ∷ (flat more ++ post)) (i + i) (double pre i lp) 1 v)
 
 -- ── trim_front ──
 module _ (l : List ℕ) (j n hi : ℕ) where
@@ -154,11 +101,10 @@ rested {l} l₁ l₂ l₃ {i} {n} {hi} {j} past trimmed cleared slid pre xs post
     }
 
 -- ── split_at ──
-pub parted : (l l₁ l₂ : List ℕ) (i n lo hi : ℕ) → getD l (i + i) 0 ≤ hi
-    → Inserted (set l (i + i + 1) (lo - getD l (i + i) 0)) (i + i + 2) (n + n) (getD l (i + i + 1) 0 - (hi - getD l (i + i) 0)) l₁
-    → Inserted l₁ (i + i + 2) (n + n + 1) hi l₂ → Parted l i n lo hi l₂
+pub parted : (l l′ : List ℕ) (i n lo hi : ℕ) → getD l (i + i) 0 ≤ hi
+    → Inserted (set l (i + i + 1) (lo - getD l (i + i) 0)) (i + 1) n hi (getD l (i + i + 1) 0 - (hi - getD l (i + i) 0)) l′ → Parted l i n lo hi l′
 unfolding Parted Inserted flat
-parted l l₁ l₂ i n lo hi h one two pre r more y z post lp ln some e =
+parted l l′ i n lo hi h inserted pre r more y z post lp ln some e =
     let b : getD l (i + i) 0 ≡ r .lo = base-is l i pre r more (y ∷ z ∷ post) lp e in
     let w : getD l (i + i + 1) 0 ≡ r .hi - r .lo = size-is l i pre r more (y ∷ z ∷ post) lp e in
     let u = lo - getD l (i + i) 0 in
@@ -166,12 +112,9 @@ parted l l₁ l₂ i n lo hi h one two pre r more y z post lp ln some e =
     let u= : u ≡ lo - r .lo = omega arith in
     let v= : v ≡ r .hi - hi = omega arith in
     let a : List ℕ = flat pre ++ (r .lo ∷ u ∷ []) in
-    let la : length a ≡ i + i + 2 = omega (arith, length-append (flat pre) (r .lo ∷ u ∷ []), double pre i lp) in
-    let lm : length (flat more) ≡ length more + length more = flat-length more in
-    let first : l₁ ≡ a ++ (v ∷ (flat more ++ (z ∷ post))) =
-    one a (flat more) y (z ∷ post) la (omega arith)
-    (set-size l i pre r more (y ∷ z ∷ post) lp e u ∙ sym (append-assoc (flat pre) (r .lo ∷ u ∷ []) (flat more ++ (y ∷ z ∷ post)))) in
-    two a (v ∷ flat more) z post la (omega arith) first
+    let la : length a ≡ (i + 1) + (i + 1) = omega (arith, length-append (flat pre) (r .lo ∷ u ∷ []), double pre i lp) in
+    inserted a (flat more) post y z la (omega (arith, flat-length more))
+    (set-size l i pre r more (y ∷ z ∷ post) lp e u ∙ sym (append-assoc (flat pre) (r .lo ∷ u ∷ []) (flat more ++ (y ∷ z ∷ post))))
     ∙ append-assoc (flat pre) (r .lo ∷ u ∷ []) (hi ∷ v ∷ (flat more ++ post))
     ∙ ap₂ (λ (g k : ℕ). flat pre ++ (r .lo ∷ g ∷ hi ∷ k ∷ (flat more ++ post))) u= v=
 

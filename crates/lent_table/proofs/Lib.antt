@@ -1,5 +1,6 @@
 pub mod LessLaws
-pub mod Moving
 pub mod TableLaws
+pub mod SlotLaws
+pub mod Moving
 pub mod Judging
 pub mod Editing

@@ -1,6 +1,6 @@
--- `insert`, `clear` and `slide`: the loops that move numbers in the lent slots. In each, every answer from here is an answer from the start.
+-- `insert_area`, `clear` and `slide`: the loops that move numbers in the lent slots. In each, every answer from here is an answer from the start.
 -- Assumes nothing.
-use mathlib.Core.Path.{_≡_, refl, ap, sym, _∙_}
+use mathlib.Core.Path.{_≡_, refl, ap, ap₂, sym, _∙_}
 use mathlib.Core.List.{List, [], _∷_, _++_, append-assoc}
 use Prim.Native.Nat.{ℕ, zero, suc, _+_, _≤_, _<_}
 use native.Mathlib.Omega.{arith}
@@ -8,6 +8,7 @@ use native.Mathlib.Nat.{add-zero}
 use lib.ListN.{length, getD, set, replicate, length-set, length-append, length-replicate}
 use lib.Seq.{set-at, getD-at}
 use Rattle.lent_table.specs.Steps.{Inserted, Cleared, Slid}
+use Rattle.lent_table.proofs.SlotLaws.{get-base, get-size, set-slot}
 
 -- the numbers so far have their length, and whatever answers from them answers from those at the start
 pub record Going (l₀ l : List ℕ) (First Next : List ℕ → Type 0) : Type 0 where
@@ -38,20 +39,25 @@ unfolding Cleared
 cleared-end l k to h a [] c la lb e = e
 cleared-end l k to h a (x ∷ b) c la lb e = absurd (omega arith)
 
--- ── insert ──
-inserted-on : (l : List ℕ) (k end x : ℕ) → k < end → (l′ : List ℕ) → Inserted (set l k x) (k + 1) end (getD l k 0) l′ → Inserted l k end x l′
-unfolding Inserted
-inserted-on l k end x h l′ go a [] y d la lc e = absurd (omega arith)
-inserted-on l k end x h l′ go a (z ∷ c) y d la lc e =
-    let z= : getD l k 0 ≡ z = ap (λ (m : List ℕ). getD m k 0) e ∙ getD-at a z (c ++ (y ∷ d)) 0 k la in
-    go (a ++ (x ∷ [])) c y d (longer a x k la) (omega arith)
-    (ap (λ (m : List ℕ). set m k x) e ∙ set-at a z (c ++ (y ∷ d)) x k la ∙ sym (seam a x (c ++ (y ∷ d))))
-    ∙ seam a x (getD l k 0 ∷ (c ++ d)) ∙ ap (λ (v : ℕ). a ++ (x ∷ v ∷ (c ++ d))) z=
+-- ── insert_area ──
+module _ (l : List ℕ) (k n base size : ℕ) where
+  inserted-on : k < n → (l′ : List ℕ)
+      → Inserted (set (set l (k + k) base) (k + k + 1) size) (k + 1) n (getD l (k + k) 0) (getD l (k + k + 1) 0) l′ → Inserted l k n base size l′
+  unfolding Inserted
+  inserted-on h l′ go a [] d y z la lc e = absurd (omega arith)
+  inserted-on h l′ go a (u ∷ []) d y z la lc e = absurd (omega arith)
+  inserted-on h l′ go a (u ∷ v ∷ c) d y z la lc e =
+      let rest : List ℕ = c ++ (y ∷ z ∷ d) in
+      let two : List ℕ = base ∷ size ∷ [] in
+      go (a ++ two) c d y z (omega (arith, length-append a two)) (omega arith)
+      (set-slot l k a u v rest la e base size ∙ sym (append-assoc a two rest))
+      ∙ append-assoc a two (getD l (k + k) 0 ∷ getD l (k + k + 1) 0 ∷ (c ++ d))
+      ∙ ap₂ (λ (s t : ℕ). a ++ (base ∷ size ∷ s ∷ t ∷ (c ++ d))) (get-base l k a u v rest la e) (get-size l k a u v rest la e)
 
-inserted-end : (l : List ℕ) (k end x : ℕ) → end ≤ k → Inserted l k end x (set l k x)
-unfolding Inserted
-inserted-end l k end x h a [] y d la lc e = ap (λ (m : List ℕ). set m k x) e ∙ set-at a y d x k la
-inserted-end l k end x h a (z ∷ c) y d la lc e = absurd (omega arith)
+  inserted-end : n ≤ k → Inserted l k n base size (set (set l (k + k) base) (k + k + 1) size)
+  unfolding Inserted
+  inserted-end h a [] d y z la lc e = set-slot l k a y z d la e base size
+  inserted-end h a (u ∷ c) d y z la lc e = absurd (omega arith)
 
 -- ── slide ──
 -- a zero behind zeros stands before them
@@ -88,11 +94,15 @@ module _ {First : List ℕ → Type 0} {l₀ l : List ℕ} where
   pub clears-end : {k to : ℕ} → Going l₀ l First (Cleared l k to) → to ≤ k → First l
   clears-end {k} {to} g h = g .back l (cleared-end l k to h)
 
-  pub inserts-on : {k end : ℕ} (x : ℕ) → Going l₀ l First (Inserted l k end x) → k < end → Going l₀ (set l k x) First (Inserted (set l k x) (k + 1) end (getD l k 0))
-  inserts-on {k} {end} x g h = record { size = length-set l k x ∙ g .size; back = λ l′ i. g .back l′ (inserted-on l k end x h l′ i) }
+  pub inserts-on : {k n : ℕ} (base size : ℕ) → Going l₀ l First (Inserted l k n base size) → k < n → Going l₀ (set (set l (k + k) base) (k + k + 1) size) First
+      (Inserted (set (set l (k + k) base) (k + k + 1) size) (k + 1) n (getD l (k + k) 0) (getD l (k + k + 1) 0))
+  inserts-on {k} {n} base size g h = record {
+    size = length-set (set l (k + k) base) (k + k + 1) size ∙ length-set l (k + k) base ∙ g .size;
+    back = λ l′ i. g .back l′ (inserted-on l k n base size h l′ i);
+  }
 
-  pub inserts-end : {k end : ℕ} (x : ℕ) → Going l₀ l First (Inserted l k end x) → end ≤ k → First (set l k x)
-  inserts-end {k} {end} x g h = g .back (set l k x) (inserted-end l k end x h)
+  pub inserts-end : {k n : ℕ} (base size : ℕ) → Going l₀ l First (Inserted l k n base size) → n ≤ k → First (set (set l (k + k) base) (k + k + 1) size)
+  inserts-end {k} {n} base size g h = g .back (set (set l (k + k) base) (k + k + 1) size) (inserted-end l k n base size h)
 
   pub slides-on : {f end : ℕ} (t : ℕ) → Going l₀ l First (Slid l t f end) → f < end
       → Going l₀ (set (set l f 0) t (getD l f 0)) First (Slid (set (set l f 0) t (getD l f 0)) (t + 1) (f + 1) end)

@@ -32,6 +32,30 @@ table-length (suc n) [] h = absurd (omega arith)
 table-length (suc n) (a ∷ []) h = absurd (omega arith)
 table-length (suc n) (a ∷ b ∷ l) h = ap suc (table-length n l (omega arith))
 
+-- what is read was written so
+pub table-flat : (n : ℕ) (l : List ℕ) → n + n ≤ length l → l ≡ flat (tableIn n l) ++ drop (n + n) l
+unfolding tableIn flat
+table-flat zero l h = refl
+table-flat (suc n) [] h = absurd (omega arith)
+table-flat (suc n) (a ∷ []) h = absurd (omega arith)
+table-flat (suc n) (a ∷ b ∷ l) h =
+    let s : b ≡ a + b - a = omega arith in
+    let t : suc n + suc n ≡ suc (suc (n + n)) = omega arith in
+    ap₂ (λ (i : ℕ) (m : List ℕ). a ∷ i ∷ m) s (table-flat n l (omega arith)) ∙ rw t
+
+-- what is written reads so
+pub flat-table : (xs : List Interval) (post : List ℕ) → Solid xs → tableIn (length xs) (flat xs ++ post) ≡ xs
+unfolding tableIn flat
+flat-table [] post s = refl
+flat-table (r ∷ xs) post s =
+    let e : r .lo + (r .hi - r .lo) ≡ r .hi = omega (arith, s .0) in
+    ap₂ (λ (i : ℕ) (m : List Interval). interval (r .lo) i ∷ m) e (flat-table xs post (s .1))
+
+pub flat-append : (a b : List Interval) (c : List ℕ) → flat (a ++ b) ++ c ≡ flat a ++ (flat b ++ c)
+unfolding flat
+flat-append [] b c = refl
+flat-append (r ∷ a) b c = ap (λ (m : List ℕ). r .lo ∷ (r .hi - r .lo) ∷ m) (flat-append a b c)
+
 -- the areas from slot k on, up to slot n
 abbrev pub fromSlot : List ℕ → ℕ → ℕ → List Interval
 fromSlot l n k = tableIn (n - k) (drop (k + k) l)

@@ -23,10 +23,10 @@ pub record Past (l : List ℕ) (from n x k : ℕ) : Type 0 where
   pub count : k ≡ from + lead x (tableIn (n - from) (drop (from + from) l))
   pub stop : k < n → x < getD l (k + k) 0 + getD l (k + k + 1) 0
 
--- insert: the numbers c stand one place on, over y
-unfoldable pub Inserted : List ℕ → ℕ → ℕ → ℕ → List ℕ → Type 0
-Inserted l at end x l′ = (a c : List ℕ) (y : ℕ) (d : List ℕ) → length a ≡ at → at + length c ≡ end
-    → l ≡ a ++ (c ++ (y ∷ d)) → l′ ≡ a ++ (x ∷ (c ++ d))
+-- insert_area: a base and a size go in before the numbers c, which stand one slot on, over y and z
+unfoldable pub Inserted : List ℕ → ℕ → ℕ → ℕ → ℕ → List ℕ → Type 0
+Inserted l at n base size l′ = (a c d : List ℕ) (y z : ℕ) → length a ≡ at + at → at + at + length c ≡ n + n
+    → l ≡ a ++ (c ++ (y ∷ z ∷ d)) → l′ ≡ a ++ (base ∷ size ∷ (c ++ d))
 
 -- clear: zeros for the numbers b
 unfoldable pub Cleared : List ℕ → ℕ → ℕ → List ℕ → Type 0

@@ -84,20 +84,26 @@ fn past(slots: &[u64], from: usize, n: usize, x: u64) -> usize
     k
 }
 
-// Puts x at place `at`, and moves the numbers from there up to `end` one place on.
-fn insert(l: &mut [u64], at: usize, end: usize, x: u64)
-    requires { ⌜ (at ≤ end) × (end < length (now l)) ⌝ }
-    ensures { λ _. ⌜ Inserted (now (l .entry)) at end x (now (l .exit)) ⌝ }
+// Puts an area into slot `at`, and moves the areas from there up to slot n one slot on. Each slot on the way is read before it is written:
+// its area is the one to put into the next.
+fn insert_area(slots: &mut [u64], at: usize, n: usize, base: u64, size: u64)
+    requires { ⌜ (at ≤ n) × (n + n + 1 < length (now slots)) ⌝ }
+    ensures { λ _. ⌜ Inserted (now (slots .entry)) at n base size (now (slots .exit)) ⌝ }
 {
-    let mut carry = x;
+    let mut put_base = base;
+    let mut put_size = size;
     let mut k = at;
-    while k < end {
-        let next = l[k];
-        l[k] = carry;
-        carry = next;
+    while k < n {
+        let next_base = slots[k + k];
+        let next_size = slots[k + k + 1];
+        slots[k + k] = put_base;
+        slots[k + k + 1] = put_size;
+        put_base = next_base;
+        put_size = next_size;
         k += 1;
     }
-    l[k] = carry;
+    slots[k + k] = put_base;
+    slots[k + k + 1] = put_size;
 }
 
 // Zeros in the places from `from` up to `to`.
@@ -165,8 +171,7 @@ fn split_at(slots: &mut [u64], i: usize, n: usize, lo: u64, hi: u64)
     let base = slots[i + i];
     let size = slots[i + i + 1];
     slots[i + i + 1] = lo - base;
-    insert(slots, i + i + 2, n + n, size - (hi - base));
-    insert(slots, i + i + 2, n + n + 1, hi);
+    insert_area(slots, i + 1, n, hi, size - (hi - base));
 }
 
 // The first n areas less what lies from lo up to hi, where they stand. There is a slot for each.

@@ -1,4 +1,4 @@
--- `lent_table::split_at` meets its contract: two numbers go in (Editing). Assumes nothing.
+-- `lent_table::split_at` meets its contract: the area is cut at lo, and what it is from hi on goes in after it (Editing). Assumes nothing.
 use native.Mathlib.Omega.{arith}
 use lib.ListN.{length-set}
 use Rattle.lent_table.proofs.Editing.{parted}
@@ -42,44 +42,23 @@ mul-slots c = search needs
 slice-write-slots : tie.Need-slice-write-slots
 slice-write-slots c = search needs
 
-add-insert : tie.Need-add-insert
-add-insert c = search needs
+add-insert-area : tie.Need-add-insert-area
+add-insert-area c = search needs
 
-add-insert-2 : tie.Need-add-insert-2
-add-insert-2 c = search needs
+sub-insert-area : tie.Need-sub-insert-area
+sub-insert-area c = search needs
 
-add-insert-3 : tie.Need-add-insert-3
-add-insert-3 c = search needs
+sub-insert-area-2 : tie.Need-sub-insert-area-2
+sub-insert-area-2 c = search needs
 
-sub-insert : tie.Need-sub-insert
-sub-insert c = search needs
-
-sub-insert-2 : tie.Need-sub-insert-2
-sub-insert-2 c = search needs
-
-insert-requires : tie.Need-insert-requires
-insert-requires c κs = (omega arith, simp length-set (omega arith))
-
-add-insert-4 : tie.Need-add-insert-4
-add-insert-4 c = search needs
-
-add-insert-5 : tie.Need-add-insert-5
-add-insert-5 c = search needs
-
-add-insert-6 : tie.Need-add-insert-6
-add-insert-6 c = search needs
-
-add-insert-7 : tie.Need-add-insert-7
-add-insert-7 c = search needs
-
-insert-requires-2 : tie.Need-insert-requires-2
-insert-requires-2 c κs = (omega arith, omega (arith, simp length-set at (c .before .before .before .insert .kept .0)))
+insert-area-requires : tie.Need-insert-area-requires
+insert-area-requires c κs = (omega arith, simp length-set (omega arith))
 
 same-length : tie.Need-same-length
-same-length c = omega (arith, simp length-set at (c .before .before .before .before .before .before .insert .kept .0))
+same-length c = omega (arith, simp length-set at (c .before .before .insert-area .kept .0))
 
 returns : tie.Need-returns
-returns c = parted _ _ _ _ _ _ _ (omega arith) (c .before .before .before .before .before .before .insert .ensures) (c .before .before .insert2 .ensures)
+returns c = parted _ _ _ _ _ _ (omega arith) (c .before .before .insert-area .ensures)
 
 pub split-at-spec : {M : Type 1} → statement M
 split-at-spec =
@@ -97,16 +76,9 @@ split-at-spec =
     add-slots-2
     mul-slots
     slice-write-slots
-    add-insert
-    add-insert-2
-    add-insert-3
-    sub-insert
-    sub-insert-2
-    insert-requires
-    add-insert-4
-    add-insert-5
-    add-insert-6
-    add-insert-7
-    insert-requires-2
+    add-insert-area
+    sub-insert-area
+    sub-insert-area-2
+    insert-area-requires
     same-length
     returns)
