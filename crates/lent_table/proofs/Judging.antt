@@ -1,15 +1,15 @@
 -- `good_area`, `good_table`, `ends_by` and `past`: each return, and the turns of the two loops. Assumes nothing.
-use mathlib.Core.Path.{_≡_, refl, ap, ap₂, sym, _∙_}
-use mathlib.Core.List.{List, [], _∷_, _++_}
-use mathlib.Core.Bool.{Bool, true, false, cond, _&&_}
-use Prim.Native.Nat.{ℕ, zero, suc, _+_, _-_, _%_, _/_, _≤_, _<_}
+use mathlib.Core.Path.{_≡_, refl, ap, sym, _∙_}
+use mathlib.Core.List.{List, _∷_}
+use mathlib.Core.Bool.{Bool, true, false, _&&_}
+use Prim.Native.Nat.{ℕ, suc, _+_, _-_, _%_, _/_, _≤_, _<_}
 use native.Mathlib.Omega.{arith}
 use native.Mathlib.Numerals.{add-one}
 use lib.Dec.{leb, eqb}
-use lib.ListN.{length, getD, drop}
+use lib.ListN.{length}
 use borrow.Author.Tests.{le-leb, lt-leb, leb-true, leb-false, eqb-true, eqb-false}
 use Rattle.page.specs.Round.{top, Aligned}
-use Rattle.areas.specs.Interval.{Interval, interval}
+use Rattle.areas.specs.Interval.{Interval}
 use Rattle.lent_table.specs.Table.{tableIn, goodArea, goodFrom, goodTable}
 use Rattle.lent_table.specs.Steps.{lead, Past}
 use Rattle.lent_table.proofs.TableLaws.{fromSlot, spanAt, slot-more, slot-end, GoodArea, area-says, area-passes}

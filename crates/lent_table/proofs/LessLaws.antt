@@ -1,5 +1,5 @@
 -- Areas less one interval: which addresses are left, that the areas still ascend, and what stays as it is. Assumes nothing.
-use mathlib.Core.Path.{_≡_, refl, ap, ap₂, sym, _∙_}
+use mathlib.Core.Path.{_≡_, refl, ap, sym, _∙_}
 use mathlib.Core.List.{List, [], _∷_, _++_, append-assoc, List·Memᴰ, List·Memᴰ·head, List·Memᴰ·tail, List·Memᴰ·not-nil, List·Memᴰ·cases-cons, List·Memᴰ·append-cases, Memᴰ·append-right}
 use mathlib.Core.Logic.{_⊎_, inl, inr, ⊎-elim, _↔_}
 use Prim.Native.Nat.{ℕ, suc, _+_, _≤_, _<_}
@@ -14,7 +14,7 @@ use Rattle.areas.specs.declared.Cut.{Cut}
 use Rattle.areas.specs.declared.Cut.the-variants.{Gone, Rest, Split}
 use Rattle.areas.specs.Carve.{cutBy}
 use Rattle.areas.specs.Steps.{Solid}
-use Rattle.areas.proofs.Lists.{Every, every-append, le-or-lt, listed-append, listed-left, listed-right}
+use Rattle.areas.proofs.Lists.{Every, le-or-lt, listed-append, listed-left, listed-right}
 use Rattle.areas.proofs.CarveLaws.{CutOf, is-gone, is-before, is-after, is-left, is-right, is-split, cutOf, gone=, before=, after=, left=, right=, split=}
 use Rattle.lent_table.specs.Less.{leftOf, less}
 use Rattle.lent_table.specs.Steps.{lead, front, above}

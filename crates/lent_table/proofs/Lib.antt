@@ -3,4 +3,7 @@ pub mod TableLaws
 pub mod SlotLaws
 pub mod Moving
 pub mod Judging
+pub mod Trimming
+pub mod Splitting
+pub mod Finding
 pub mod Editing

@@ -3,19 +3,18 @@ use mathlib.Core.Path.{_≡_, refl, ap, ap₂, sym, _∙_}
 use mathlib.Core.List.{List, [], _∷_, _++_, List·Memᴰ, List·Memᴰ·head, List·Memᴰ·tail, List·Memᴰ·cases-cons, List·Memᴰ·not-nil}
 use mathlib.Core.Bool.{Bool, true, false, _&&_, true≢false}
 use mathlib.Core.Logic.{⊎-elim, _↔_}
-use Prim.Native.Nat.{ℕ, zero, suc, _+_, _-_, _%_, _/_, _≤_, _<_}
+use Prim.Native.Nat.{ℕ, zero, suc, _+_, _-_, _%_, _≤_, _<_}
 use native.Mathlib.Omega.{arith}
-use native.Mathlib.Numerals.{add-one}
 use lib.Dec.{leb, ltb, eqb}
-use lib.ListN.{length, getD, drop, drop-of-length-le}
+use lib.ListN.{length, getD, drop}
 use lib.Seq.{drop-cons}
 use borrow.Author.Tests.{le-leb, lt-ltb, eq-eqb, leb-true, ltb-true, eqb-true}
-use Rattle.page.specs.Round.{top, Aligned}
-use Rattle.areas.specs.Interval.{Interval, interval, Above, Ascending}
+use Rattle.areas.specs.Interval.{Interval, interval, Above}
 use Rattle.areas.specs.Shape.{WholePages}
 use Rattle.areas.specs.Steps.{Solid}
 use Rattle.areas.specs.Table.{flat, slotsIn}
 use Rattle.lent_table.specs.Table.{tableIn, GoodTable, goodArea, goodFrom, goodTable}
+use Rattle.lent_table.specs.Steps.{Edits}
 
 pub table-none : (l : List ℕ) → tableIn 0 l ≡ []
 unfolding tableIn
@@ -147,3 +146,7 @@ good-exactly p n l = (
       record { room = leb-true _ _ (and-left (leb n (slotsIn l)) _ e); shape = record { ascend = f .0; pages = f .1 } },
   λ g. and-both _ _ (le-leb _ _ (g .room)) (from-passes p 0 (tableIn n l) (g .shape .ascend) (g .shape .pages)),
 )
+
+-- and can be edited
+pub good-edits : (p n : ℕ) (l : List ℕ) (c : Interval) → goodTable p n l ≡ true → c .lo < c .hi → Edits c l n
+good-edits p n l c good some = let g : GoodTable p n l = good-exactly p n l .0 good in record { solid = some; room = g .room; ascend = g .shape .ascend }

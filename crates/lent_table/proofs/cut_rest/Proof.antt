@@ -1,5 +1,5 @@
--- `lent_table::cut_rest` meets its contract: what its four steps come to (Editing). Assumes nothing.
-use Rattle.lent_table.proofs.Editing.{rested}
+-- `lent_table::cut_rest` meets its contract: what its four steps come to (Trimming). Assumes nothing.
+use Rattle.lent_table.proofs.Trimming.{rested}
 use borrow.Author.Needs.{needs}
 use Rattle.lent_table.proofs.cut_rest.Statement.{statement}
 use Rattle.lent_table.proofs.cut_rest.Tie as tie

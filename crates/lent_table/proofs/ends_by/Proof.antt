@@ -1,6 +1,5 @@
 -- `lent_table::ends_by` meets its contract (Judging). Assumes nothing.
 use Rattle.lent_table.proofs.Judging.{ends-past, ends-at}
-use borrow.Author.Needs.{needs}
 use Rattle.lent_table.proofs.ends_by.Statement.{statement}
 use Rattle.lent_table.proofs.ends_by.Tie as tie
 

@@ -1,7 +1,7 @@
--- `lent_table::split_at` meets its contract: the area is cut at lo, and what it is from hi on goes in after it (Editing). Assumes nothing.
+-- `lent_table::split_at` meets its contract: the area is cut at lo, and what it is from hi on goes in after it (Splitting). Assumes nothing.
 use native.Mathlib.Omega.{arith}
 use lib.ListN.{length-set}
-use Rattle.lent_table.proofs.Editing.{parted}
+use Rattle.lent_table.proofs.Splitting.{parted}
 use borrow.Author.Needs.{needs}
 use Rattle.lent_table.proofs.split_at.Statement.{statement}
 use Rattle.lent_table.proofs.split_at.Tie as tie

@@ -1,7 +1,7 @@
--- `lent_table::trim_front` meets its contract (Editing). Assumes nothing.
+-- `lent_table::trim_front` meets its contract (Trimming). Assumes nothing.
 use native.Mathlib.Omega.{arith}
 use lib.ListN.{length-set}
-use Rattle.lent_table.proofs.Editing.{trimmed-end, trimmed-same, trimmed-set}
+use Rattle.lent_table.proofs.Trimming.{trimmed-end, trimmed-same, trimmed-set}
 use borrow.Author.Needs.{needs}
 use Rattle.lent_table.proofs.trim_front.Statement.{statement}
 use Rattle.lent_table.proofs.trim_front.Tie as tie
