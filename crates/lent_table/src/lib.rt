@@ -1,5 +1,8 @@
 // The finished table where a caller lends it, as numbers: whether it can be one, and taking a range away from its areas in place. Nothing
 // here knows of a map or of a claim.
+//
+// Slot k is the numbers at places k + k and k + k + 1, an area's base and its size, and the first n slots are in use. A range goes from lo up
+// to hi, and hi is not in it. No base and size are added before it is known that the sum fits.
 ghost use mathlib.Core.Path.{_≡_};
 ghost use mathlib.Core.Bool.{not};
 ghost use Prim.Native.Nat.{_+_, _≤_, _<_};
@@ -11,10 +14,10 @@ ghost use Rattle.lent_table.specs.Table.{tableIn, goodArea, goodTable};
 ghost use Rattle.lent_table.specs.Less.{less};
 ghost use Rattle.lent_table.specs.Steps.{Past, Inserted, Cleared, Slid, Trims, Trimmed, Rested, Splits, Parted, Edits, Fitting, Edited};
 
-// The start of the last page: no area ends past it.
+// T, the start of the last page: no area ends past it.
 const TOP: u64 = 0xffff_ffff_ffff_f000;
 
-// An area of a table: it starts at `least` or above, is nonempty and of whole pages, and ends at T at most.
+// Whether this is an area of a table, where the areas before it let the next start at `least`: nonempty, of whole pages, and up to T at most.
 fn good_area(least: u64, base: u64, size: u64) -> bool
     ensures { λ r. ⌜ r ≡ goodArea 4096 least (interval base (base + size)) ⌝ }
 {
@@ -36,7 +39,8 @@ fn good_area(least: u64, base: u64, size: u64) -> bool
     (base + size) % page::PAGE_SIZE == 0
 }
 
-// Whether the first n slots can be a finished table: refusal 14 is that they cannot.
+// Whether the first n slots can be a finished table: refusal 14 is that they cannot. The count comes first, so that only slots that are
+// there are read. The next area starts past the end of the one before, and not at it: areas that touch would be one area.
 pub fn good_table(slots: &[u64], n: usize) -> bool
     ensures { λ r. ⌜ r ≡ goodTable 4096 n (now (slots .entry)) ⌝ }
 {
@@ -57,7 +61,7 @@ pub fn good_table(slots: &[u64], n: usize) -> bool
     true
 }
 
-// Whether an area ends at x or below. The sum itself may not fit.
+// Whether an area ends at x or below. Its end itself may not fit.
 fn ends_by(base: u64, size: u64, x: u64) -> bool
     ensures { λ r. ⌜ r ≡ leb (base + size) x ⌝ }
 {
@@ -67,7 +71,7 @@ fn ends_by(base: u64, size: u64, x: u64) -> bool
     size <= x - base
 }
 
-// The first slot from `from` on whose area ends past x, or n.
+// The first slot from `from` on whose area ends past x, or n where each ends at x or below.
 fn past(slots: &[u64], from: usize, n: usize, x: u64) -> usize
     requires { ⌜ (from ≤ n) × (n + n ≤ length (now slots)) ⌝ }
     ensures { λ r. ⌜ Past (now (slots .entry)) from n x r ⌝ }
@@ -106,7 +110,7 @@ fn insert_area(slots: &mut [u64], at: usize, n: usize, base: u64, size: u64)
     slots[k + k + 1] = put_size;
 }
 
-// Zeros in the places from `from` up to `to`.
+// Zeros in the places from `from` up to `to`: the areas there are gone.
 fn clear(l: &mut [u64], from: usize, to: usize)
     requires { ⌜ to ≤ length (now l) ⌝ }
     ensures { λ _. ⌜ Cleared (now (l .entry)) from to (now (l .exit)) ⌝ }
@@ -118,7 +122,8 @@ fn clear(l: &mut [u64], from: usize, to: usize)
     }
 }
 
-// Moves the numbers from place `from` up to `end` down to place `to`, over zeros, which go behind them.
+// Moves the numbers from place `from` up to `end` down to place `to`, over zeros, which go behind them. A place is zero before its number
+// is put where it goes: so the number stays where that is the same place.
 fn slide(l: &mut [u64], to: usize, from: usize, end: usize)
     requires { ⌜ (to ≤ from) × (end ≤ length (now l)) ⌝ }
     ensures { λ _. ⌜ Slid (now (l .entry)) to from end (now (l .exit)) ⌝ }
@@ -134,7 +139,7 @@ fn slide(l: &mut [u64], to: usize, from: usize, end: usize)
     }
 }
 
-// The area in slot j, where it ends past hi, starts at hi at the earliest.
+// The area in slot j ends past hi: from here on it starts at hi at the earliest. Where j is n there is none.
 fn trim_front(slots: &mut [u64], j: usize, n: usize, hi: u64)
     requires { ⌜ Trims (now slots) j n hi ⌝ }
     ensures { λ _. ⌜ Trimmed (now (slots .entry)) j n hi (now (slots .exit)) ⌝ }
@@ -151,7 +156,8 @@ fn trim_front(slots: &mut [u64], j: usize, n: usize, hi: u64)
     slots[j + j + 1] = size - (hi - base);
 }
 
-// Of the areas from slot i on, takes away what lies below hi: those that are left move down to slot i, and leave zeros.
+// Takes away what lies below hi of the areas from slot i on, and returns how many slots are in use then. Those before slot j, the first that
+// ends past hi, are gone, and those from there on move down to slot i and leave zeros.
 fn cut_rest(slots: &mut [u64], i: usize, n: usize, hi: u64) -> usize
     requires { ⌜ (i ≤ n) × (n + n ≤ length (now slots)) ⌝ }
     ensures { λ r. ⌜ Rested (now (slots .entry)) i n hi (now (slots .exit)) r ⌝ }
@@ -163,7 +169,8 @@ fn cut_rest(slots: &mut [u64], i: usize, n: usize, hi: u64) -> usize
     i + (n - j)
 }
 
-// The area in slot i up to lo, and from hi on as an area of its own: the areas after it move one slot on.
+// The area in slot i reaches past the range on both sides: it stays up to lo, and what it is from hi on becomes an area of its own in the next
+// slot. The areas after it move one slot on.
 fn split_at(slots: &mut [u64], i: usize, n: usize, lo: u64, hi: u64)
     requires { ⌜ Splits (now slots) i n lo hi ⌝ }
     ensures { λ _. ⌜ Parted (now (slots .entry)) i n lo hi (now (slots .exit)) ⌝ }
@@ -174,7 +181,8 @@ fn split_at(slots: &mut [u64], i: usize, n: usize, lo: u64, hi: u64)
     insert_area(slots, i + 1, n, hi, size - (hi - base));
 }
 
-// The first n areas less what lies from lo up to hi, where they stand. There is a slot for each.
+// The first n areas less what lies from lo up to hi, where they stand, and how many they are then. There is a slot for each. Slot i is the
+// first whose area ends past lo: all before it stay as they are, and the rest depends on where this one lies.
 pub fn edit(slots: &mut [u64], n: usize, lo: u64, hi: u64) -> usize
     requires { ⌜ Fitting (interval lo hi) (now slots) n ⌝ }
     ensures { λ r. ⌜ Edited (interval lo hi) (now (slots .entry)) n (now (slots .exit)) r ⌝ }
@@ -199,7 +207,8 @@ pub fn edit(slots: &mut [u64], n: usize, lo: u64, hi: u64) -> usize
     n + 1
 }
 
-// Whether taking away what lies from lo up to hi makes two areas of one, for which there is no slot.
+// Whether there is no slot for each area that is left when what lies from lo up to hi is taken away. That needs a slot more only where it
+// makes two areas of one, the first that ends past lo.
 pub fn crowded(slots: &[u64], n: usize, lo: u64, hi: u64) -> bool
     requires { ⌜ Edits (interval lo hi) (now slots) n ⌝ }
     ensures { λ r. ⌜ r ≡ not (fits (less (interval lo hi) (tableIn n (now (slots .entry)))) (now (slots .entry))) ⌝ }
