@@ -1,0 +1,9 @@
+pub mod Stands
+pub mod Ways
+pub mod Refusals
+pub mod Taking
+pub mod Numbers
+pub mod Left
+pub mod Afresh
+pub mod Came
+pub mod Demand
