@@ -1,6 +1,6 @@
 -- The order file: document 01, "Order file and report". Little-endian.
 use mathlib.Core.Path.{_≡_}
-use Prim.Native.Nat.{ℕ, _+_, _*_, _≤_, _<_, _%_, _/_}
+use Prim.Native.Nat.{ℕ, _+_, _*_, _≤_, _<_, _%_, _/_, min}
 use mathlib.Core.List.{List}
 use mathlib.Core.Bool.{Bool, false, cond, _&&_, _||_}
 use lib.ListN.{length, getD}
@@ -101,3 +101,9 @@ orderNumber BadOrder = 9
 -- 9: "order file breaks its layout, or is longer than 65,536"
 unfoldable pub orderOf : List ℕ → OrderRead
 orderOf s = cond (goodOrder s) (Layout (orderIn s)) BadOrder
+
+-- ── What follows a file ──
+-- how many bytes at the start of s are the order file, whatever follows it: its length is what its header says; all of them where s is
+-- shorter than a header, or than that length
+unfoldable pub fileEnd : List ℕ → ℕ
+fileEnd s = cond (leb 112 (length s)) (min (length s) (112 + listCount s * 24 + treeLength s)) (length s)

@@ -5,7 +5,7 @@ ghost use lib.ListN.{length};
 ghost use lib.Dec.{eqb};
 ghost use mathlib.Core.Bool.{_||_};
 ghost use Rattle.words.specs.Little.{eight};
-ghost use Rattle.order.specs.Layout.{limitBy, pairAt, goodOrder, orderIn, orderNumber, orderOf};
+ghost use Rattle.order.specs.Layout.{limitBy, pairAt, goodOrder, orderIn, orderNumber, orderOf, fileEnd};
 use areas::Limit;
 use cells::Region;
 use fdt::Block;
@@ -142,4 +142,19 @@ pub fn read_order(s: &[u8]) -> OrderRead
         return OrderRead::BadOrder;
     }
     OrderRead::Layout(order_in(s))
+}
+
+// How many bytes at the start of the input are the order file, by its header, so that a caller can put something behind it.
+pub fn file_end(input: &[u8]) -> usize
+    ensures { λ r. ⌜ r ≡ fileEnd (now (input .entry)) ⌝ }
+    ensures { λ r. ⌜ r ≤ length (now (input .entry)) ⌝ }
+{
+    if input.len() < 112 {
+        return input.len();
+    }
+    let end = 112 + words::le16(input, 6) * 24 + words::le32(input, 104);
+    if input.len() < end {
+        return input.len();
+    }
+    end
 }
