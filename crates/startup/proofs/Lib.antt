@@ -4,3 +4,4 @@ pub mod TreeLaws
 pub mod SourceLaws
 pub mod SheetLaws
 pub mod ReportLaws
+pub mod StartLaws

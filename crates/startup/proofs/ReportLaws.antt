@@ -92,7 +92,7 @@ module _ (p : ℕ) (s : List ℕ) (o : Order) (x : Sources) (is : x ≡ sourcesO
       go Accepted = refl
       go (Rejected f) = refl
 
-  map-is : x .verdict ≡ Accepted → x .map ≡ runOf p s o .map
+  pub map-is : x .verdict ≡ Accepted → x .map ≡ runOf p s o .map
   unfolding sourcesOf
   map-is e =
       ap (λ (y : Sources). y .map) is

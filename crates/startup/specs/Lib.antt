@@ -1,3 +1,4 @@
 pub mod Sources
 pub mod Verdict
 pub mod Report
+pub mod Start

@@ -7,6 +7,7 @@ ghost use Rattle.memory.specs.Run.{registeredAll};
 ghost use Rattle.startup.specs.Sources.{pairClaim, pairClaims, andThen};
 ghost use Rattle.startup.specs.Verdict.{refusalNumber, verdictNumber, treeFault, rejection, sourcesOf, endedSources};
 ghost use Rattle.startup.specs.Report.{reportNumber, Finishes, Reports};
+ghost use Rattle.startup.specs.Start.{notStarted, StartFinishes, Starts};
 use areas::Built;
 use areas::Limit;
 use cells::Region;
@@ -88,6 +89,12 @@ impl Report {
             Report::Refused(refusal) => refusal.number(),
         }
     }
+}
+
+// The map with all registrations of an order file beside what the build answers, or the empty map beside a refusal.
+pub struct Start {
+    pub map: MemoryMap,
+    pub report: Report,
 }
 
 // Registers one more range in place, where none was refused before it.
@@ -240,21 +247,52 @@ fn finish(map: MemoryMap, low: Limit, high: Limit, slots: &mut [u64]) -> Report
     }
 }
 
-// Builds the area table of an order file in the lent slots, two numbers each. A refusal writes nothing.
-pub fn init(file: &[u8], slots: &mut [u64]) -> Report
-    ensures { λ r. ⌜ Reports 4096 (now (file .entry)) (now (slots .entry)) (now (slots .exit)) r ⌝ }
+// The empty map beside a refusal, that of the areas too.
+fn not_started(refusal: Refusal) -> Start
+    ensures { λ r. ⌜ r ≡ notStarted refusal ⌝ }
+{
+    Start {
+        map: MemoryMap::empty(),
+        report: Report::Refused(refusal),
+    }
+}
+
+// The map beside its finished areas, or the empty one where they are refused.
+fn start_finished(map: MemoryMap, low: Limit, high: Limit, slots: &mut [u64]) -> Start
+    requires { ⌜ Made 4096 map ⌝ }
+    ensures { λ r. ⌜ StartFinishes 4096 map low high (now (slots .entry)) (now (slots .exit)) r ⌝ }
+{
+    let report = finish(map, low, high, slots);
+    match report {
+        Report::Refused(refusal) => not_started(refusal),
+        Report::Done(_, _) => Start { map, report },
+    }
+}
+
+// Builds the area table of an order file in the lent slots, two numbers each, and hands out the map of all its registrations, so that more
+// can be claimed. A refusal writes nothing, and the empty map stands beside it.
+pub fn init_map(file: &[u8], slots: &mut [u64]) -> Start
+    ensures { λ r. ⌜ Starts 4096 (now (file .entry)) (now (slots .entry)) (now (slots .exit)) r ⌝ }
 {
     match order::read_order(file) {
-        OrderRead::BadOrder => Report::Refused(Refusal::BadOrder),
+        OrderRead::BadOrder => not_started(Refusal::BadOrder),
         OrderRead::Layout(order) => {
             let low = order.low;
             let high = order.high;
             let sources = register_memory_from_kernel_args(file, order);
             let verdict = sources.verdict;
             match verdict {
-                Verdict::Rejected(refusal) => Report::Refused(refusal),
-                Verdict::Accepted => finish(sources.map, low, high, slots),
+                Verdict::Rejected(refusal) => not_started(refusal),
+                Verdict::Accepted => start_finished(sources.map, low, high, slots),
             }
         }
     }
+}
+
+// The same without the map.
+pub fn init(file: &[u8], slots: &mut [u64]) -> Report
+    ensures { λ r. ⌜ Reports 4096 (now (file .entry)) (now (slots .entry)) (now (slots .exit)) r ⌝ }
+{
+    let start = init_map(file, slots);
+    start.report
 }
