@@ -96,7 +96,7 @@ module _ (p : ℕ) (g : Page p) (s l : List ℕ) (n : ℕ) (sheet : PageSheet) (
   unfolding tableOf
   table = let d = done-exactly p s l g n sheet .0 done in done-writes p s l n sheet done ∙ rw (le-leb _ _ room, d .1)
 
-  built : Builds p (mapAfter p (fileClaims s)) (orderIn s .low) (orderIn s .high) l (slotsAfter p s l) (BuildDone n)
+  pub built : Builds p (mapAfter p (fileClaims s)) (orderIn s .low) (orderIn s .high) l (slotsAfter p s l) (BuildDone n)
   unfolding answerOf
   built = let d = done-exactly p s l g n sheet .0 done in record { answer = rw (le-leb _ _ room) (ap BuildDone (d .1)); table = table }
 

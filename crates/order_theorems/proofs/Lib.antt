@@ -1,3 +1,4 @@
 pub mod Rows
 pub mod Demand
 pub mod Pages
+pub mod Late
