@@ -4,7 +4,7 @@ ghost use Rattle.entry.specs.Claim.{claim};
 ghost use Rattle.memory.specs.Map.{mapOf, blank, registered};
 ghost use Rattle.memory.specs.Made.{Made};
 ghost use Rattle.bootloader.specs.List.{listed};
-ghost use Rattle.bench.specs.Timed.{BuildsFree};
+ghost use Rattle.bench.specs.Timed.{BuildsFree, LateIs};
 use areas::Built;
 use areas::Limit;
 use memory::MemoryMap;
@@ -65,4 +65,29 @@ pub extern "C" fn bench_build(
         Built::Done(n) => n,
         Built::TooManyAreas => 0,
     }
+}
+
+// A late claim of one page by value, and answers how many slots of the table are used then.
+#[no_mangle]
+pub extern "C" fn bench_late(
+    starts: &[u64; 512],
+    ends: &[u64; 512],
+    kinds: &[u64; 512],
+    size: usize,
+    base: u64,
+    kind: u64,
+    slots: &mut [u64],
+    count: usize,
+) -> usize
+    requires { ⌜ Made 4096 (mapOf (now starts) (now ends) (now kinds) size) ⌝ }
+    ensures { λ r. ⌜ LateIs 4096 (mapOf (now (starts .entry)) (now (ends .entry)) (now (kinds .entry)) size) (claim base 4096 kind) count (now (slots .entry)) (now (slots .exit)) r ⌝ }
+{
+    let map = MemoryMap {
+        starts: *starts,
+        ends: *ends,
+        kinds: *kinds,
+        size,
+    };
+    let r = late_claim::claim_late(map, base, 4096, kind, slots, count);
+    r.count
 }
