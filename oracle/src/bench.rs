@@ -1,4 +1,5 @@
 //! Times our compiled crates against the unchanged Rust, in one process and in alternating rounds.
+use crate::bench_late;
 use crate::bench_whole;
 use crate::blob::{Blocks, Node, Order};
 use crate::rust::{self, Claim, Entry};
@@ -22,7 +23,7 @@ unsafe extern "C" {
         kind: u64,
     ) -> usize;
     fn bench_claims(tree: *const u8, bytes: usize, arm: bool) -> usize;
-    fn bench_build(
+    pub fn bench_build(
         starts: *const u64,
         ends: *const u64,
         kinds: *const u64,
@@ -32,10 +33,10 @@ unsafe extern "C" {
     ) -> usize;
 }
 
-/// The same work twice: each answers what it took, and a count that must be equal.
+/// The same work twice, ours and what it is timed beside: each answers what it took, and a count that must be equal.
 pub struct Work {
     pub name: &'static str,
-    pub rust: Box<dyn Fn() -> (Duration, usize)>,
+    pub beside: Box<dyn Fn() -> (Duration, usize)>,
     pub ours: Box<dyn Fn() -> (Duration, usize)>,
 }
 
@@ -45,16 +46,16 @@ pub fn timed(call: impl FnOnce() -> usize) -> (Duration, usize) {
     (start.elapsed(), count)
 }
 
-fn map_of(claims: &[Claim]) -> Vec<Entry> {
+pub fn map_of(claims: &[Claim]) -> Vec<Entry> {
     hold(&[]);
     assert_eq!(rust::register_all(claims, 0), rust::DONE);
     held()
 }
 
 /// A map in the form that ours takes.
-struct Columns([[u64; 512]; 3], usize);
+pub struct Columns(pub [[u64; 512]; 3], pub usize);
 
-fn columns(map: &[Entry]) -> Columns {
+pub fn columns(map: &[Entry]) -> Columns {
     let mut all = Columns([[0; 512]; 3], map.len());
     for (i, entry) in map.iter().enumerate() {
         for (column, number) in all.0.iter_mut().zip(entry) {
@@ -69,7 +70,7 @@ fn list(name: &'static str, claims: &[Claim]) -> Work {
     let same = words.clone();
     Work {
         name,
-        rust: Box::new(move || {
+        beside: Box::new(move || {
             hold(&[]);
             let (took, _) = timed(|| {
                 register_list(&words, 8 * words.len());
@@ -88,7 +89,7 @@ fn single(name: &'static str, claims: &[Claim], base: u64, kind: u64, done: bool
     let known = kind_of(kind).expect("a kind");
     Work {
         name,
-        rust: Box::new(move || {
+        beside: Box::new(move || {
             hold(&map);
             let (took, _) = timed(|| {
                 if done {
@@ -114,7 +115,7 @@ fn build(name: &'static str, claims: &[Claim]) -> Work {
     let Columns([starts, ends, kinds], size) = columns(&map);
     Work {
         name,
-        rust: Box::new(move || {
+        beside: Box::new(move || {
             hold(&map);
             rust::time_build(512)
         }),
@@ -181,7 +182,7 @@ fn tree(name: &'static str, nodes: u32) -> Work {
     let words: &'static [u32] = rust::whole_words(&bytes).leak();
     Work {
         name,
-        rust: Box::new(move || {
+        beside: Box::new(move || {
             hold(&[]);
             let took = rust::time_tree(words);
             (took, held().len())
@@ -218,21 +219,28 @@ fn median(mut times: Vec<Duration>) -> f64 {
     times[times.len() / 2].as_nanos() as f64
 }
 
-pub fn run() {
-    println!("{:<52} {:>10} {:>10} {:>7}", "nanoseconds a call, medians of 301 rounds", "Rust", "ours", "ratio");
-    for work in works().into_iter().chain(bench_whole::works()) {
-        let (mut rust, mut ours) = (Vec::new(), Vec::new());
+/// A row for each, its ratio with so many decimals.
+fn print(works: impl IntoIterator<Item = Work>, decimals: usize) {
+    for work in works {
+        let (mut beside, mut ours) = (Vec::new(), Vec::new());
         for _ in 0..ROUNDS {
-            let (took, count) = (work.rust)();
-            rust.push(took);
+            let (took, count) = (work.beside)();
+            beside.push(took);
             let (took, same) = (work.ours)();
             ours.push(took);
             assert_eq!(count, same, "{}", work.name);
         }
-        let (rust, ours) = (median(rust), median(ours));
-        println!("{:<52} {rust:>10.0} {ours:>10.0} {:>7.2}", work.name, ours / rust);
+        let (beside, ours) = (median(beside), median(ours));
+        println!("{:<52} {beside:>10.0} {ours:>10.0} {:>7.decimals$}", work.name, ours / beside);
     }
+}
+
+pub fn run() {
+    println!("{:<52} {:>10} {:>10} {:>7}", "nanoseconds a call, medians of 301 rounds", "Rust", "ours", "ratio");
+    print(works().into_iter().chain(bench_whole::works()), 2);
     println!("(b) the Rust over the stand-in for the crate fdt, which opens and does not judge");
     println!("(a) where the Rust panics: its time has the unwinding, and catching it, in it");
     println!("(c) ours is handed the order file, which it reads and judges, and makes the page sheet too");
+    println!("{:<52} {:>10} {:>10} {:>7}", "a late claim of one page, ours beside ours", "afresh", "late", "ratio");
+    print(bench_late::works(), 4);
 }

@@ -48,7 +48,7 @@ fn work(name: String, order: OrderFile) -> Work {
     let words = whole_words(&order.tree);
     Work {
         name: name.leak(),
-        rust: Box::new(move || {
+        beside: Box::new(move || {
             let args = kernel_args(&order, &words);
             hold(&[]);
             rust::unheard(|| rust::time_init(&args, SLOTS))

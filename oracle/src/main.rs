@@ -25,6 +25,8 @@ macro_rules! cfg {
 #[cfg(feature = "bench")]
 mod bench;
 #[cfg(feature = "bench")]
+mod bench_late;
+#[cfg(feature = "bench")]
 mod bench_whole;
 mod blob;
 mod cases;
