@@ -10,7 +10,7 @@ use sheet::ShareBits;
 use startup::Report;
 
 // Puts some bytes at a place of the buffer, and answers the place behind them.
-fn put(out: &mut [u8], at: usize, bytes: &[u8]) -> usize
+pub fn put(out: &mut [u8], at: usize, bytes: &[u8]) -> usize
     requires { ⌜ at + length (now bytes) ≤ length (now out) ⌝ }
     ensures { λ r. ⌜ Writes (now (out .entry)) at (now (bytes .entry)) (now (out .exit)) r ⌝ }
 {
@@ -23,7 +23,7 @@ fn put(out: &mut [u8], at: usize, bytes: &[u8]) -> usize
 }
 
 // A number's decimal digits.
-fn put_decimal(out: &mut [u8], at: usize, n: u64) -> usize
+pub fn put_decimal(out: &mut [u8], at: usize, n: u64) -> usize
     requires { ⌜ at + 20 ≤ length (now out) ⌝ }
     ensures { λ r. ⌜ Writes (now (out .entry)) at (decimalText n) (now (out .exit)) r ⌝ }
 {
@@ -65,7 +65,7 @@ fn put_area(out: &mut [u8], at: usize, base: u64, size: u64) -> usize
 }
 
 // The first n areas of the slots, a line each.
-fn put_areas(out: &mut [u8], at: usize, slots: &[u64], n: usize) -> usize
+pub fn put_areas(out: &mut [u8], at: usize, slots: &[u64], n: usize) -> usize
     requires { ⌜ (n + n ≤ length (now slots)) × (at + n * 34 ≤ length (now out)) ⌝ }
     ensures { λ r. ⌜ Writes (now (out .entry)) at (areaLines (now (slots .entry)) n 0) (now (out .exit)) r ⌝ }
 {
@@ -78,7 +78,7 @@ fn put_areas(out: &mut [u8], at: usize, slots: &[u64], n: usize) -> usize
     p
 }
 
-fn put_count(out: &mut [u8], at: usize, n: usize) -> usize
+pub fn put_count(out: &mut [u8], at: usize, n: usize) -> usize
     requires { ⌜ at + 27 ≤ length (now out) ⌝ }
     ensures { λ r. ⌜ Writes (now (out .entry)) at (countLine n) (now (out .exit)) r ⌝ }
 {
@@ -100,7 +100,7 @@ fn put_pages(out: &mut [u8], at: usize, sheet: PageSheet) -> usize
     put(out, f, b"\n")
 }
 
-fn put_refusal(out: &mut [u8], number: u8) -> usize
+pub fn put_refusal(out: &mut [u8], number: u8) -> usize
     requires { ⌜ 29 ≤ length (now out) ⌝ }
     ensures { λ r. ⌜ Writes (now (out .entry)) 0 (refusedLine number) (now (out .exit)) r ⌝ }
 {
@@ -110,7 +110,7 @@ fn put_refusal(out: &mut [u8], number: u8) -> usize
 }
 
 // The count as far as there are slots.
-fn listed(n: usize) -> usize
+pub fn listed(n: usize) -> usize
     ensures { λ r. ⌜ (r ≤ n) × (r ≤ 512) × (r ≡ min n 512) ⌝ }
 {
     if 512 < n {

@@ -1,0 +1,2 @@
+pub mod LateLaws
+pub mod Meaning
