@@ -3,7 +3,10 @@
  *
  * The build of document 01 for a web service: an order file in, the area table with its page sheet out. Every call answers for all bytes
  * of the file, keeps nothing, and shares nothing with another call: threads may call at once, each with WHARFTHRUM_STACK bytes of stack.
- * Slots are aligned as uint64_t is; lengths are true; what one call is lent does not overlap. */
+ * Slots are aligned as uint64_t is; lengths are true; what one call is lent does not overlap.
+ *
+ * For a boot stage that learns of a window late (document 02, L3): a build that leaves its map in the caller's memory, and a claim on that map
+ * and on the finished table. The memory of the map is the one thing that the caller keeps for the library: see WharfthrumMap. */
 #ifndef WHARFTHRUM_H
 #define WHARFTHRUM_H
 
@@ -38,6 +41,16 @@ enum {
     WHARFTHRUM_TOO_MANY_AREAS = 3     /* there are more areas than slots */
 };
 
+/* The numbers of a late claim, in the order in which they are checked: the first fault decides. */
+enum {
+    WHARFTHRUM_LATE_DONE = 0,          /* done */
+    WHARFTHRUM_LATE_UNKNOWN_KIND = 1,  /* the kind is none of the seven, size 0 included */
+    WHARFTHRUM_LATE_NOT_LATE = 13,     /* the kind is Null or Free */
+    WHARFTHRUM_LATE_BAD_TABLE = 14,    /* the count is above the slots, or the areas are no table: see wharfthrum_claim_late */
+    WHARFTHRUM_LATE_MAP_FULL = 2,      /* the map is full */
+    WHARFTHRUM_LATE_TOO_MANY_AREAS = 3 /* the claim makes two areas of one, and there is no slot for it */
+};
+
 /* What a build answers. A refusal has 0 in every field but the first. */
 typedef struct WharfthrumReport {
     uint64_t number;    /* 0, or the number of the refusal */
@@ -47,6 +60,23 @@ typedef struct WharfthrumReport {
     uint64_t has_share; /* 1 if a page is Free, else 0 */
     double share;       /* usable over Free, rounded once; 0.0 where has_share is 0 */
 } WharfthrumReport;
+
+/* Numbers of a map's memory: 12,296 bytes. */
+#define WHARFTHRUM_MAP 1537
+
+/* The memory of a map, lent by the caller and kept by it between the calls: the starts of the map's 512 entries, their ends, their kinds, and
+ * how many are held. It may be copied and moved as a whole. ONLY wharfthrum_build_map AND wharfthrum_claim_late MAY CHANGE A NUMBER OF
+ * IT, and none is handed to wharfthrum_claim_late before a build into it answered 0. A caller that does otherwise breaks what is proved:
+ * then nothing is promised, not even that other memory is left alone. */
+typedef struct WharfthrumMap {
+    uint64_t numbers[WHARFTHRUM_MAP];
+} WharfthrumMap;
+
+/* What a late claim answers. */
+typedef struct WharfthrumLate {
+    uint64_t number; /* 0, or the number of the refusal */
+    uint64_t count;  /* how many slots are used now; after a refusal, the count that was handed in */
+} WharfthrumLate;
 
 /* Builds the area table of a file in the lent slots: base and size of each area, sorted by base. `numbers` is the count of the numbers
  * lent, so numbers / 2 slots: an odd one at the end is no slot. All past the count is untouched, and a refusal writes nothing. */
@@ -58,6 +88,22 @@ size_t wharfthrum_report(const uint8_t *file, size_t bytes, uint64_t *slots, uin
 
 /* The number alone that a file is answered with under 512 slots, for a form that only checks it. */
 uint64_t wharfthrum_number(const uint8_t *file, size_t bytes);
+
+/* As wharfthrum_build, and leaves the map of all the file's registrations in the lent memory, for late claims. What was there before is not
+ * read. A refusal leaves it as it was. */
+WharfthrumReport wharfthrum_build_map(const uint8_t *file, size_t bytes, uint64_t *slots, size_t numbers, WharfthrumMap *map);
+
+/* A late claim of any kind but Null and Free, by the number of its kind: it enters the map, and of the areas in the first `count` slots, those
+ * that the claim overlaps, rounded outward to whole pages, are edited where they stand. The areas after them move, slots that fall out of
+ * use become zero, and all past these is untouched. Size 0, once 1, 13 and 14 are checked, is done and changes nothing. A refusal leaves
+ * every number of the map and of the slots.
+ *
+ * If the table came from this map, by a build or by earlier late claims, it is afterwards that of a build afresh with the claim in the file's list.
+ * A table from elsewhere is allowed, of any count and with any numbers: 14 says that it is none. A table's areas ascend, each base and size is a
+ * multiple of 4,096, no size is 0, no two areas touch, and none ends past 2^64 - 4,096. `numbers` is the count of the numbers lent, so
+ * numbers / 2 slots. For a table that came from its map 512 slots are always enough; another can gain one area by a claim. */
+WharfthrumLate wharfthrum_claim_late(WharfthrumMap *map, uint64_t base, uint64_t size, uint64_t kind, uint64_t *slots, size_t numbers,
+                                     size_t count);
 
 #ifdef __cplusplus
 }

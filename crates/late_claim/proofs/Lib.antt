@@ -1,3 +1,4 @@
 pub mod Judging
 pub mod Entering
 pub mod Claiming
+pub mod MadeLaws

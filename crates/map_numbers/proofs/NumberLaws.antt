@@ -1,7 +1,7 @@
 -- A map and its numbers: what is loaded, what is stored, and that either gives back the other. Assumes nothing.
 use mathlib.Core.Path.{_≡_, refl, ap, sym, _∙_}
 use mathlib.Core.List.{List, [], _∷_, _++_, append-assoc, append-nil}
-use Prim.Native.Nat.{ℕ, suc, _+_, _≤_, _<_}
+use Prim.Native.Nat.{ℕ, _+_}
 use native.Mathlib.Omega.{arith}
 use lib.ListN.{length, take, drop, getD, set, replicate, take-append-drop, length-append, length-drop, drop-of-length-le}
 use lib.Seq.{paste, take-all, take-at, drop-at, getD-at, set-at, drop-drop, drop-cons, drop-append-add}

@@ -4,7 +4,12 @@ ghost use lib.ListN.{replicate};
 ghost use Rattle.startup.specs.Report.{reportNumber, reportOf, slotsAfter};
 ghost use Rattle.report_text.specs.Text.{reportText};
 ghost use Rattle.report_text.specs.Writing.{Writes};
+ghost use Rattle.entry.specs.Claim.{claim};
+ghost use Rattle.memory.specs.Made.{Made};
+ghost use Rattle.late_claim.specs.Late.{lateOf};
+ghost use Rattle.map_numbers.specs.Numbers.{mapIn, numbersOf};
 ghost use Rattle.service.specs.Plain.{hasShare, shareFloat, plainOf};
+ghost use Rattle.service.specs.Late.{memoryAfter, plainLate};
 use sheet::Share;
 use startup::Report;
 
@@ -18,6 +23,13 @@ pub struct WharfthrumReport {
     pub usable: u64,
     pub has_share: u64,
     pub share: f64,
+}
+
+// What a late claim answers: 0 or the number of the refusal, and how many slots are used then.
+#[repr(C)]
+pub struct WharfthrumLate {
+    pub number: u64,
+    pub count: u64,
 }
 
 // Whether there is a share.
@@ -97,4 +109,49 @@ pub extern "C" fn wharfthrum_number(file: &[u8]) -> u64
     let mut slots = [0u64; 1024];
     let report = startup::init(file, &mut slots);
     report.number() as u64
+}
+
+// Builds the same as `wharfthrum_build`, and leaves the map in the lent numbers, whatever they were. A refusal leaves them as they were.
+#[no_mangle]
+pub extern "C" fn wharfthrum_build_map(
+    file: &[u8],
+    slots: &mut [u64],
+    map: &mut [u64; 1537],
+) -> WharfthrumReport
+    ensures { λ r. ⌜ r ≡ plainOf (reportOf 4096 (now (file .entry)) (now (slots .entry))) ⌝ }
+    ensures { λ _. ⌜ now (slots .exit) ≡ slotsAfter 4096 (now (file .entry)) (now (slots .entry)) ⌝ }
+    ensures { λ _. ⌜ now (map .exit) ≡ memoryAfter 4096 (now (file .entry)) (now (slots .entry)) (now (map .entry)) ⌝ }
+{
+    let start = startup::init_map(file, slots);
+    let report = start.report;
+    let Report::Done(_, _) = report else {
+        return plain(report);
+    };
+    map_numbers::store(map, start.map);
+    plain(report)
+}
+
+// A late claim on the map in the lent numbers and on a finished table, of which `count` slots are used. What it asks of those numbers
+// `wharfthrum_build_map` and every late claim leave so: proofs/Asked.
+#[no_mangle]
+pub extern "C" fn wharfthrum_claim_late(
+    map: &mut [u64; 1537],
+    base: u64,
+    size: u64,
+    kind: u64,
+    slots: &mut [u64],
+    count: usize,
+) -> WharfthrumLate
+    requires { ⌜ Made 4096 (mapIn (now map)) ⌝ }
+    ensures { λ r. ⌜ r ≡ plainLate (lateOf 4096 (mapIn (now (map .entry))) (claim base size kind) count (now (slots .entry))) ⌝ }
+    ensures { λ _. ⌜ now (slots .exit) ≡ lateOf 4096 (mapIn (now (map .entry))) (claim base size kind) count (now (slots .entry)) .table ⌝ }
+    ensures { λ _. ⌜ now (map .exit) ≡ numbersOf (lateOf 4096 (mapIn (now (map .entry))) (claim base size kind) count (now (slots .entry)) .map) ⌝ }
+{
+    let late = late_claim::claim_late(map_numbers::load(map), base, size, kind, slots, count);
+    let answer = late.answer;
+    map_numbers::store(map, late.map);
+    WharfthrumLate {
+        number: answer.number() as u64,
+        count: late.count as u64,
+    }
 }
