@@ -15,6 +15,7 @@
 static Bytes carved, deep, blob, structure;
 static uint64_t slots[2 * WHARFTHRUM_SLOTS];
 static uint8_t text[WHARFTHRUM_TEXT];
+static WharfthrumMap map;
 
 /* 1,023 Free pages, and every second one of them reserved, the highest first: each piece on the left is carved again. */
 static void lay_carved(void)
@@ -79,6 +80,24 @@ static void *number(void *file)
     return wharfthrum_number(((Bytes *)file)->at, ((Bytes *)file)->len) == 0 ? file : NULL;
 }
 
+static void *build_map(void *file)
+{
+    uint64_t count = file == &carved ? 512 : 2;
+    WharfthrumReport r = wharfthrum_build_map(((Bytes *)file)->at, ((Bytes *)file)->len, slots, 2 * WHARFTHRUM_SLOTS, &map);
+    return r.number == 0 && r.count == count ? file : NULL;
+}
+
+/* A claim inside the one area of a table from elsewhere, on the map that `build_map` left: with no slot for the second piece, and with one. The
+ * carved file's map is full. */
+static void *claim_late(void *file)
+{
+    uint64_t table[4] = {0x1000000, 0x3000, 0, 0};
+    int full = file == &carved;
+    WharfthrumLate crowded = wharfthrum_claim_late(&map, 0x1001000, 0x1000, 0x101, table, 2, 1);
+    WharfthrumLate split = wharfthrum_claim_late(&map, 0x1001000, 0x1000, 0x101, table, 4, 1);
+    return crowded.number == (full ? 2 : 3) && split.number == (full ? 2 : 0) && split.count == (full ? 1 : 2) ? file : NULL;
+}
+
 /* ---- the thread ---- */
 
 static void need(int held, const char *what)
@@ -111,14 +130,15 @@ static size_t depth(void *(*call)(void *), Bytes *file, const char *what)
 
 int main(void)
 {
-    static void *(*const calls[3])(void *) = {build, report, number};
-    static const char *const names[3] = {"wharfthrum_build", "wharfthrum_report", "wharfthrum_number"};
+    static void *(*const calls[5])(void *) = {build, report, number, build_map, claim_late};
+    static const char *const names[5] = {"wharfthrum_build", "wharfthrum_report", "wharfthrum_number", "wharfthrum_build_map",
+                                         "wharfthrum_claim_late"};
     lay_carved();
     lay_deep();
     size_t own = depth(nothing, &carved, "a thread that does nothing"), deepest = 0;
-    for (unsigned i = 0; i < 3; i++) {
+    for (unsigned f = 0; f < 2; f++) {
         Bytes *files[2] = {&carved, &deep};
-        for (unsigned f = 0; f < 2; f++) {
+        for (unsigned i = 0; i < 5; i++) {
             size_t bytes = depth(calls[i], files[f], names[i]);
             deepest = bytes > deepest ? bytes : deepest;
         }
