@@ -1,8 +1,8 @@
 //! The unchanged Rust of the boot memory map as an oracle. `oracle gen SEED COUNT` writes COUNT cases with the
 //! Rust's answers to standard output, `oracle claims SEED COUNT` the same of trees, and `oracle orders SEED COUNT` of
-//! whole order files; README.md has their layouts. `oracle orders-through PROGRAM SEED COUNT` runs a program on each
-//! order file, and compares what it prints. `oracle bench`, where it is built with that feature, times our crates
-//! against the Rust.
+//! whole order files, and `oracle late SEED COUNT` of such with late claims behind them; README.md has their layouts.
+//! `oracle orders-through PROGRAM SEED COUNT` and `oracle late-through PROGRAM SEED COUNT` run a program on each, and
+//! compare what it prints. `oracle bench`, where it is built with that feature, times our crates against the Rust.
 #![feature(sync_unsafe_cell, int_roundings)]
 
 /// The Rust's log lines are type checked and not written.
@@ -32,7 +32,11 @@ mod blob;
 mod cases;
 mod choices;
 mod claims;
+mod frames;
 mod judge;
+mod late;
+mod late_cases;
+mod late_edges;
 mod order_cases;
 mod order_edges;
 mod order_ends;
@@ -119,22 +123,29 @@ fn main() -> io::Result<()> {
     match args[..] {
         ["gen", seed, count] => generate(number(seed), number(count) as usize),
         ["claims", seed, count] => claims::generate(number(seed), number(count) as usize),
-        ["orders", seed, count] => orders::generate(number(seed), number(count) as usize),
-        ["orders-names"] => orders::names(),
-        ["orders-through", program, seed, count] => {
-            let same = through::run(program, number(seed), number(count) as usize)?;
-            std::process::exit(i32::from(!same))
-        }
+        ["orders", seed, count] => frames::generate(orders::stream, number(seed), number(count) as usize),
+        ["orders-names"] => frames::names(&order_edges::edges()),
+        ["orders-through", program, seed, count] => through(program, orders::stream, number(seed), number(count)),
+        ["late", seed, count] => frames::generate(late::stream, number(seed), number(count) as usize),
+        ["late-names"] => frames::names(&late_edges::edges()),
+        ["late-through", program, seed, count] => through(program, late::stream, number(seed), number(count)),
         #[cfg(feature = "bench")]
         ["bench"] => Ok(bench::run()),
         _ => usage(),
     }
 }
 
+/// Runs a program on the cases of a stream, and ends with status 1 where it gets one wrong.
+fn through(program: &str, stream: frames::Stream, seed: u64, count: u64) -> io::Result<()> {
+    let same = through::run(program, stream, seed, count as usize)?;
+    std::process::exit(i32::from(!same))
+}
+
 fn usage() -> ! {
     eprintln!(
         "oracle gen SEED COUNT\noracle claims SEED COUNT\noracle orders SEED COUNT\noracle orders-names\n\
-         oracle orders-through PROGRAM SEED COUNT"
+         oracle orders-through PROGRAM SEED COUNT\noracle late SEED COUNT\noracle late-names\n\
+         oracle late-through PROGRAM SEED COUNT"
     );
     std::process::exit(2);
 }

@@ -13,21 +13,21 @@ pub type Named = (String, Vec<u8>);
 type Said = (&'static str, OrderFile);
 
 /// Every address, so that each registration of another kind is seen in the areas.
-const ALL: Claim = [0, u64::MAX, FREE];
+pub const ALL: Claim = [0, u64::MAX, FREE];
 
-fn listed(list: &[Claim]) -> OrderFile {
+pub fn listed(list: &[Claim]) -> OrderFile {
     OrderFile { list: list.to_vec(), ..OrderFile::default() }
 }
 
-fn limited(low: Option<u64>, high: Option<u64>) -> OrderFile {
+pub fn limited(low: Option<u64>, high: Option<u64>) -> OrderFile {
     OrderFile { low, high, ..listed(&[ALL]) }
 }
 
-fn with_tree(tree: Vec<u8>) -> OrderFile {
+pub fn with_tree(tree: Vec<u8>) -> OrderFile {
     OrderFile { tree, ..listed(&[ALL]) }
 }
 
-fn with_root(root: Node) -> OrderFile {
+pub fn with_root(root: Node) -> OrderFile {
     with_tree(trees::case(&[], root).tree)
 }
 
@@ -35,7 +35,7 @@ fn with_block(entries: &[[u64; 2]]) -> OrderFile {
     with_tree(trees::case(entries, Node::new("")).tree)
 }
 
-fn case_s() -> OrderFile {
+pub fn case_s() -> OrderFile {
     let pairs = [[0x10_0000, 0x20_0000], [0; 2], [0; 2], [0; 2], [0x40_0800, 0x1000]];
     OrderFile { pairs, ..listed(&[[0, 0x80_0000, FREE]]) }
 }
@@ -95,12 +95,12 @@ fn windows() -> Vec<Named> {
 }
 
 /// Free pages, every second one.
-fn pages(count: u64) -> Vec<Claim> {
+pub fn pages(count: u64) -> Vec<Claim> {
     (0..count).map(|i| [2 * i * PAGE, PAGE, FREE]).collect()
 }
 
 /// A tree with so many devices, in every second page.
-fn devices(count: u32) -> Vec<u8> {
+pub fn devices(count: u32) -> Vec<u8> {
     let reg: Vec<u32> = (0..count).flat_map(|i| [0x2000 * i + 0x1000, 0x1000]).collect();
     let all = Node::new("all").with("reg", trees::cells(&reg));
     trees::case(&[], trees::node("", 1).holding([trees::node("soc", 1).with("ranges", []).holding([all])])).tree
@@ -148,11 +148,11 @@ fn sources() -> Vec<Said> {
     ]
 }
 
-fn bad_reg() -> Node {
+pub fn bad_reg() -> Node {
     trees::reserving([trees::pool(&[0x1000, 8]), trees::pool(&[3])])
 }
 
-fn bad_ranges() -> Node {
+pub fn bad_ranges() -> Node {
     trees::node("", 1).holding([trees::unreadable_soc()])
 }
 
@@ -163,7 +163,7 @@ pub fn wide(nodes: usize) -> Vec<u8> {
 }
 
 /// Tokens behind the end of the tree.
-fn broken() -> Vec<u8> {
+pub fn broken() -> Vec<u8> {
     let mut blocks = Blocks::plain(&[], &Node::new(""));
     blocks.structure.extend([0, 0, 0, 2, 0, 0, 0, 9]);
     blocks.lay_out(Order::Usual)

@@ -7,7 +7,8 @@ pub const BAD_ORDER: u64 = 9;
 pub const LARGEST: usize = 65_536;
 /// Bytes before the list.
 pub const HEAD: usize = 112;
-const ENTRY: usize = 24;
+/// Bytes of an entry of the list.
+pub const ENTRY: usize = 24;
 
 /// Where fields stand.
 pub const VERSION: usize = 3;
@@ -74,12 +75,22 @@ impl OrderFile {
     }
 }
 
+/// How many bytes of an input are its order file: as many as the header says, or all where there are not so many.
+pub fn end(input: &[u8]) -> usize {
+    if input.len() < HEAD {
+        return input.len();
+    }
+    let count = number(&input[LIST_COUNT..LOW]) as usize;
+    let length = number(&input[TREE_LENGTH..ZEROS]) as usize;
+    input.len().min(HEAD + ENTRY * count + length)
+}
+
 /// The number in some bytes, the lowest first.
 fn number(bytes: &[u8]) -> u64 {
     bytes.iter().rev().fold(0, |number, byte| number << 8 | u64::from(*byte))
 }
 
-fn entry(bytes: &[u8]) -> Claim {
+pub fn entry(bytes: &[u8]) -> Claim {
     [0, 8, 16].map(|at| number(&bytes[at..at + 8]))
 }
 

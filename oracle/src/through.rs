@@ -1,5 +1,5 @@
-//! Runs a program once for each order file of a stream, and compares what it prints.
-use crate::orders::stream;
+//! Runs a program once for each input of a stream, and compares what it prints.
+use crate::frames::Stream;
 use std::io::{self, ErrorKind, Write};
 use std::process::{Command, Stdio};
 use std::sync::mpsc::{Receiver, sync_channel};
@@ -10,7 +10,7 @@ const WORKERS: usize = 2;
 /// Cases that wait for a worker.
 const WAITING: usize = 64;
 
-/// A case: its place in the stream, the file, and the text that must be printed.
+/// A case: its place in the stream, the input, and the text that must be printed.
 type Case = (usize, Vec<u8>, String);
 
 /// How many cases a program got wrong, and the first of them with what the program did.
@@ -37,10 +37,10 @@ impl Wrong {
     }
 }
 
-/// What a program prints on a file that is given on standard input; or how it ended, where that was not well.
-fn printed(program: &str, file: &[u8]) -> io::Result<Result<Vec<u8>, String>> {
+/// What a program prints on an input, given as its standard input; or how it ended, where that was not well.
+fn printed(program: &str, input: &[u8]) -> io::Result<Result<Vec<u8>, String>> {
     let mut child = Command::new(program).stdin(Stdio::piped()).stdout(Stdio::piped()).spawn()?;
-    let written = child.stdin.take().expect("a pipe").write_all(file);
+    let written = child.stdin.take().expect("a pipe").write_all(input);
     let output = child.wait_with_output()?;
     match written {
         // It need not read all.
@@ -68,15 +68,15 @@ fn work(program: &str, cases: &Mutex<Receiver<Case>>) -> io::Result<Wrong> {
 
 fn show(wrong: &Wrong) {
     println!("differ {}", wrong.count);
-    if let Some(((at, file, text), did)) = &wrong.first {
-        let hex: String = file.iter().map(|byte| format!("{byte:02x}")).collect();
+    if let Some(((at, input, text), did)) = &wrong.first {
+        let hex: String = input.iter().map(|byte| format!("{byte:02x}")).collect();
         println!("case {at}, counted from 0: {hex}\nmust print:\n{text}printed:\n{did}");
     }
 }
 
 /// Runs a program on the cases of a seed, and answers whether it printed all of them right. The Rust has one thread,
 /// the one that makes the cases.
-pub fn run(program: &str, seed: u64, count: usize) -> io::Result<bool> {
+pub fn run(program: &str, stream: Stream, seed: u64, count: usize) -> io::Result<bool> {
     let (give, take) = sync_channel(WAITING);
     let take = Arc::new(Mutex::new(take));
     let workers: Vec<_> = (0..WORKERS)
@@ -88,9 +88,9 @@ pub fn run(program: &str, seed: u64, count: usize) -> io::Result<bool> {
     // Where every worker has failed nobody takes any more.
     drop(take);
     let mut at = 0;
-    let made = stream(seed, count, |file, text| {
+    let made = stream(seed, count, &mut |input, text| {
         at += 1;
-        give.send((at - 1, file, text)).map_err(|_| io::Error::other("no worker is left"))
+        give.send((at - 1, input, text)).map_err(|_| io::Error::other("no worker is left"))
     });
     drop(give);
     let mut wrong = Wrong::default();
