@@ -4,10 +4,11 @@
     oracle late SEED COUNT | late_model.py
 
 reads the frames that README.md lays out, and prints how many cases differ, and the first few. What an order file says is
-orders_model.py; nothing is shared with the harness, nor with the proved code. A table is never edited here: it is a set of
-pages, the claim is another, and the areas afterwards are the runs of what is left. `late` is one claim on any map and any
-table, also on one that came from elsewhere.
+orders_model.py; nothing is shared with the harness, nor with the proved code. A table is never edited here: it is a set
+of pages, the claim is another, and the areas afterwards are the runs of what is left. `late` is one claim on any map and
+any table, also on one that came from elsewhere; late/tables asks for such, in the form that `table_answer` reads.
 """
+import functools
 import struct
 import sys
 from typing import NamedTuple
@@ -95,8 +96,10 @@ def build(file):
 
 
 def map_of(made):
+    """The map of registrations that it has room for."""
     held = []
-    assert all(register(held, *claim) for claim in made)
+    for claim in made:
+        register(held, *claim)
     return held
 
 
@@ -112,8 +115,8 @@ def split(data):
     if length >= HEAD:
         entries, tree = struct.unpack_from("<H", data, 6)[0], struct.unpack_from("<I", data, 104)[0]
         length = HEAD + ENTRY * entries + tree
-    whole = (len(data) - length) // ENTRY
-    return data[:length], [struct.unpack_from("<3Q", data, length + ENTRY * i) for i in range(max(whole, 0))]
+    rest = data[length:]
+    return data[:length], [struct.unpack_from("<3Q", rest, at) for at in range(0, len(rest) - ENTRY + 1, ENTRY)]
 
 
 def run(data):
@@ -138,6 +141,33 @@ def text(data):
         return "refused %d\n" % refused.args[0]
     lines = "areas %d\n%s" % (len(areas), "".join("%016x %016x\n" % area for area in areas))
     return lines + ("refused %d at %d\n" % (number, index) if number else "late %d\n" % index)
+
+
+# ── A claim on a table from elsewhere ──
+
+@functools.cache
+def map_or_number(file):
+    """The map of a file's build and 0, or none and the number of its refusal."""
+    try:
+        return map_of(build(file)[1]), 0
+    except Refused as refused:
+        return None, refused.args[0]
+
+
+def packed(numbers):
+    return struct.pack("<%dQ" % len(numbers), *numbers)
+
+
+def table_answer(data):
+    """The answer to a case of late/tables, byte for byte."""
+    length = int.from_bytes(data[:8], "little")
+    file, asked = data[8:8 + length], data[8 + length:]
+    base, size, kind, count, _, *numbers = struct.unpack("<%dQ" % (len(asked) // 8), asked)
+    held, number = map_or_number(file)
+    if number:
+        return packed([number])
+    after = late(held, base, size, kind, count, numbers)
+    return packed([0, after.number, after.count, *after.numbers, after.held == held])
 
 
 def main():
