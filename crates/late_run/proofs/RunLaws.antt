@@ -12,20 +12,10 @@ use borrow.Author.Tests.{eqb-true, eqb-false}
 use Rattle.entry.specs.Claim.{Claim}
 use Rattle.memory.specs.declared.MemoryMap.{MemoryMap}
 use Rattle.late_claim.specs.declared.LateAnswer.the-variants.{Done}
-use Rattle.late_claim.specs.Late.{lateNumber, judged, entering, After, unchanged, entered, enterOf, lateOf}
+use Rattle.late_claim.specs.Late.{lateNumber, After, unchanged, lateOf}
+use Rattle.late_claim.proofs.MadeLaws.{refused-unchanged}
 use Rattle.late_run.specs.Run.{Run, run, stopped, lateAll, Dones, none, next, Stops}
-use Rattle.late_run.proofs.Running.{on-either, run-on, run-stops}
-
--- refusals "all leave map and table unchanged"
-abbrev Same : MemoryMap → ℕ → List ℕ → After → Type 0
-Same m n l a = (lateNumber (a .answer) ≡ 0 → ⊥) → a ≡ unchanged m n l (a .answer)
-
-late-unchanged : (p : ℕ) (m : MemoryMap) (c : Claim) (n : ℕ) (l : List ℕ) → Same m n l (lateOf p m c n l)
-unfolding lateOf enterOf
-late-unchanged p m c n l =
-    on-either (Same m n l) (judged p (c .kind) n l) _ (unchanged m n l (judged p (c .kind) n l))
-    (on-either (Same m n l) (entering p m c n l) (entered p m c n l) (unchanged m n l (entering p m c n l)) (λ f. absurd (f refl)) (λ f. refl))
-    (λ f. refl)
+use Rattle.late_run.proofs.Running.{run-on, run-stops}
 
 -- a run whose first claim has index i
 record From (p : ℕ) (m : MemoryMap) (n : ℕ) (l : List ℕ) (i : ℕ) (cs : List Claim) (r : Run) : Type 0 where
@@ -64,7 +54,7 @@ module _ (p : ℕ) where
 
     from-stops : (lateNumber (one .answer) ≡ 0 → ⊥) → From p m n l i (c ∷ cs) (stopped one i)
     from-stops f =
-        let e : one ≡ unchanged m n l (one .answer) = late-unchanged p m c n l f in
+        let e : one ≡ unchanged m n l (one .answer) = refused-unchanged p m c n l f in
         rw e (record {
           before = [];
           here = c;

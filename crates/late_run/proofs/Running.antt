@@ -9,29 +9,12 @@ use Rattle.words.specs.Little.{eight}
 use Rattle.entry.specs.Claim.{Claim, claim}
 use Rattle.memory.specs.declared.MemoryMap.{MemoryMap}
 use Rattle.memory.specs.Made.{Made}
-use Rattle.memory.proofs.MapLaws.{registered-made}
 use Rattle.bootloader.specs.List.{claimAt, claimsAt, claims}
-use Rattle.late_claim.specs.declared.LateAnswer.{LateAnswer}
-use Rattle.late_claim.specs.declared.LateAnswer.the-variants.{Done, UnknownKind, NotLate, BadTable, MapFull, TooManyAreas}
-use Rattle.late_claim.specs.Late.{lateNumber, judged, entering, onDone, After, unchanged, entered, enterOf, lateOf}
+use Rattle.late_claim.specs.declared.LateAnswer.the-variants.{Done}
+use Rattle.late_claim.specs.Late.{lateNumber, After, lateOf}
 use Rattle.late_claim.proofs.Claiming.{zero-done, other}
+use Rattle.late_claim.proofs.MadeLaws.{late-made}
 use Rattle.late_run.specs.Run.{Run, run, stopped, lateAll}
-
--- ── One claim makes a map again ──
-pub on-either : {A : Type 0} (P : A → Type 0) (a : LateAnswer) (x y : A) → P x → P y → P (onDone a x y)
-on-either P Done x y h k = h
-on-either P UnknownKind x y h k = k
-on-either P NotLate x y h k = k
-on-either P BadTable x y h k = k
-on-either P MapFull x y h k = k
-on-either P TooManyAreas x y h k = k
-
-pub late-made : (p : ℕ) (m : MemoryMap) (c : Claim) (n : ℕ) (l : List ℕ) → Page p → Made p m → Made p (lateOf p m c n l .map)
-unfolding lateOf enterOf
-late-made p m c n l g h =
-    on-either (λ (a : After). Made p (a .map)) (judged p (c .kind) n l) _ (unchanged m n l (judged p (c .kind) n l))
-    (on-either (λ (a : After). Made p (a .map)) (entering p m c n l) (entered p m c n l) (unchanged m n l (entering p m c n l)) (registered-made p m c g h) h)
-    h
 
 -- ── One claim of a run ──
 module _ (p : ℕ) (m : MemoryMap) (n : ℕ) (l : List ℕ) (i : ℕ) (c : Claim) (cs : List Claim) (a : After) (is : a ≡ lateOf p m c n l) where

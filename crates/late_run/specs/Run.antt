@@ -37,11 +37,11 @@ lateAll p m n l i (c ∷ cs) =
     (stopped (lateOf p m c n l) i)
 
 -- ── What the calls hand back, as that ──
-abbrev pub runOf : LateRun → List ℕ → Run
-runOf r l = run (r .map) (r .count) l (r .index) (r .answer)
+abbrev pub ran : LateRun → List ℕ → Run
+ran r l = run (r .map) (r .count) l (r .index) (r .answer)
 
-abbrev pub runIn : LateRunIn → List ℕ → List ℕ → List ℕ → List ℕ → Run
-runIn r s e k l = run (mapOf s e k (r .size)) (r .count) l (r .index) (r .answer)
+abbrev pub ranIn : LateRunIn → List ℕ → List ℕ → List ℕ → List ℕ → Run
+ranIn r s e k l = run (mapOf s e k (r .size)) (r .count) l (r .index) (r .answer)
 
 -- ── What a run means ──
 -- each of the claims is done, on what the one before it left; in the end that is m′, n′ and l′

@@ -3,7 +3,7 @@ ghost use mathlib.Core.Path.{_≡_};
 ghost use Rattle.memory.specs.Map.{mapOf};
 ghost use Rattle.memory.specs.Made.{Made};
 ghost use Rattle.bootloader.specs.List.{claims};
-ghost use Rattle.late_run.specs.Run.{lateAll, runOf, runIn};
+ghost use Rattle.late_run.specs.Run.{lateAll, ran, ranIn};
 use late_claim::LateAnswer;
 use memory::MemoryMap;
 
@@ -36,7 +36,7 @@ pub fn claim_all_in(
     list: &[u8],
 ) -> LateRunIn
     requires { ⌜ Made 4096 (mapOf (now starts) (now ends) (now kinds) size) ⌝ }
-    ensures { λ r. ⌜ runIn r (now (starts .exit)) (now (ends .exit)) (now (kinds .exit)) (now (slots .exit)) ≡ lateAll 4096 (mapOf (now (starts .entry)) (now (ends .entry)) (now (kinds .entry)) size) count (now (slots .entry)) 0 (claims (now (list .entry))) ⌝ }
+    ensures { λ r. ⌜ ranIn r (now (starts .exit)) (now (ends .exit)) (now (kinds .exit)) (now (slots .exit)) ≡ lateAll 4096 (mapOf (now (starts .entry)) (now (ends .entry)) (now (kinds .entry)) size) count (now (slots .entry)) 0 (claims (now (list .entry))) ⌝ }
 {
     let mut held = size;
     let mut used = count;
@@ -72,7 +72,7 @@ pub fn claim_all_in(
 // The same on a map by value.
 pub fn claim_all(map: MemoryMap, slots: &mut [u64], count: usize, list: &[u8]) -> LateRun
     requires { ⌜ Made 4096 map ⌝ }
-    ensures { λ r. ⌜ runOf r (now (slots .exit)) ≡ lateAll 4096 map count (now (slots .entry)) 0 (claims (now (list .entry))) ⌝ }
+    ensures { λ r. ⌜ ran r (now (slots .exit)) ≡ lateAll 4096 map count (now (slots .entry)) 0 (claims (now (list .entry))) ⌝ }
 {
     let mut starts = map.starts;
     let mut ends = map.ends;

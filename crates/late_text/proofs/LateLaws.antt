@@ -23,7 +23,7 @@ use Rattle.late_claim.specs.declared.LateAnswer.{LateAnswer}
 use Rattle.late_claim.specs.Late.{lateNumber}
 use Rattle.late_claim.proofs.Claiming.{zero-done, other}
 use Rattle.late_run.specs.declared.LateRun.{LateRun}
-use Rattle.late_run.specs.Run.{Run, lateAll, runOf}
+use Rattle.late_run.specs.Run.{Run, lateAll, ran}
 use Rattle.late_text.specs.Text.{madeLine, refusedAtLine, lastLine, linesOf, runText, textBehind, lateText}
 
 -- ── The last line: k is the answer's number ──
@@ -57,7 +57,7 @@ module _ {p : ℕ} (s : List ℕ) {l l′ : List ℕ} {e : ℕ} {x : Start} (end
   behind = ap (λ (k : ℕ). take k (drop e s)) (sym (length-drop e s)) ∙ take-length (drop e s)
 
   pub text-done : {n : ℕ} {sheet : PageSheet} → x .report ≡ Done n sheet → {y : LateRun} {l″ : List ℕ}
-      → runOf y l″ ≡ lateAll p (x .map) n l′ 0 (claims (take (length s - e) (drop e s))) → linesOf (y .count) l″ (y .answer) (y .index) ≡ lateText p s l
+      → ran y l″ ≡ lateAll p (x .map) n l′ 0 (claims (take (length s - e) (drop e s))) → linesOf (y .count) l″ (y .answer) (y .index) ≡ lateText p s l
   unfolding lateText textBehind
   text-done {n} {sheet} d {y} {l″} run =
       let r : reportOf p (take (fileEnd s) s) l ≡ Done n sheet = rw (← end, ← starts .reports .report) d in

@@ -19,6 +19,7 @@ use Rattle.areas.specs.Table.{slotsIn}
 use Rattle.late_claim.specs.declared.LateAnswer.{LateAnswer}
 use Rattle.late_claim.specs.declared.LateAnswer.the-variants.{Done, UnknownKind, NotLate, BadTable, MapFull, TooManyAreas}
 use Rattle.late_claim.specs.Late.{lateNumber, areasLeft, After, unchanged, lateOf}
+use Rattle.late_claim.proofs.MadeLaws.{refused-unchanged}
 use Rattle.late_theorems.specs.Refusals.{lateGives, NullOrFree, LateKind, TableStands}
 use Rattle.late_theorems.proofs.Ways.{late-unknown, late-never, late-bad, late-full, late-many, late-entered, Way, unknown-kind, not-late, bad-table, map-full, too-many, done, late-way, unrefused}
 
@@ -113,12 +114,4 @@ module _ (p : ℕ) (m : MemoryMap) (c : Claim) (n : ℕ) (l : List ℕ) where
 
   -- THEOREM, refusals "all leave map and table unchanged"
   pub refused-leaves : (lateGives p m c n l ≡ 0 → ⊥) → lateOf p m c n l ≡ unchanged m n l (lateOf p m c n l .answer)
-  refused-leaves = go (lateOf p m c n l) (late-way p m c n l)
-    where
-      go : (a : After) → Way p m c n l a → (lateNumber (a .answer) ≡ 0 → ⊥) → a ≡ unchanged m n l (a .answer)
-      go a (unknown-kind f) r = refl
-      go a (not-late h) r = refl
-      go a (bad-table k f) r = refl
-      go a (map-full k s z) r = refl
-      go a (too-many k s z h) r = refl
-      go a (done k s z h) r = absurd (r refl)
+  refused-leaves = refused-unchanged p m c n l

@@ -9,8 +9,8 @@ use Rattle.page.specs.Round.{Page}
 use Rattle.entry.specs.Claim.{Claim}
 use Rattle.memory.specs.declared.MemoryMap.{MemoryMap}
 use Rattle.memory.specs.Made.{Made}
-use Rattle.late_claim.specs.Late.{lateNumber, judged, entering, After, unchanged, entered, enterOf, lateOf}
-use Rattle.late_claim.proofs.MadeLaws.{on-either, late-made}
+use Rattle.late_claim.specs.Late.{lateNumber, After, lateOf}
+use Rattle.late_claim.proofs.MadeLaws.{refused-unchanged, late-made}
 use Rattle.map_numbers.specs.Numbers.{mapIn, numbersOf}
 use Rattle.map_numbers.proofs.NumberLaws.{map-numbers, numbers-map}
 use Rattle.startup.specs.declared.Refusal.{Refusal}
@@ -55,12 +55,5 @@ claim-asks p k c n l g h = stored-made p (lateOf p (mapIn k) c n l .map) (late-m
 -- A REFUSAL LEAVES THE MEMORY: "all leave map and table unchanged"
 pub refused-memory : (p : ℕ) (k : List ℕ) (c : Claim) (n : ℕ) (l : List ℕ) → length k ≡ 1537
     → (lateNumber (lateOf p (mapIn k) c n l .answer) ≡ 0 → ⊥) → numbersOf (lateOf p (mapIn k) c n l .map) ≡ k
-unfolding lateOf enterOf
 refused-memory p k c n l h f =
-    let m = mapIn k in
-    ap numbersOf
-    (on-either (λ (a : After). (lateNumber (a .answer) ≡ 0 → ⊥) → a .map ≡ m) (judged p (c .kind) n l) (enterOf p m c n l) (unchanged m n l (judged p (c .kind) n l))
-    (on-either (λ (a : After). (lateNumber (a .answer) ≡ 0 → ⊥) → a .map ≡ m) (entering p m c n l) (entered p m c n l) (unchanged m n l (entering p m c n l)) (λ no0. absurd (no0 refl)) (λ no0. refl))
-    (λ no0. refl)
-    f)
-    ∙ numbers-map k h
+    ap (λ (a : After). numbersOf (a .map)) (refused-unchanged p (mapIn k) c n l f) ∙ numbers-map k h
