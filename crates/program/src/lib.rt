@@ -1,4 +1,5 @@
-// The program `report` as a function, so that its exit status can be had: Rattle's `main` answers none, and C's can answer this one.
+// The programs `report` and `late` as functions, so that their exit status can be had: Rattle's `main` answers none, and C's can answer
+// this one.
 ghost use Prim.Native.Nat.{_≤_};
 use standard::Ending;
 use standard::Input;
@@ -16,10 +17,39 @@ pub fn report() -> Ending {
     standard::write_all(&text[..k])
 }
 
-// The same with its exit status, which is one of those of `Ending::status`.
+// Reads an order file with late claims behind it from standard input, makes them, and writes the areas and how many were made to standard
+// output. Up to 262,144 bytes are read, which is the longest order file and 8,192 claims, and one more: where that is there, nothing is
+// done, so that no claim is lost unseen. 512 slots are lent.
+pub fn late() -> Ending {
+    let mut input = [0u8; 262145];
+    let Input::Held(n) = standard::read_all(&mut input) else {
+        return Ending::Unread;
+    };
+    if 262144 < n {
+        io::write_all(
+            libc::STDERR_FILENO,
+            b"late: more than 262144 bytes on standard input\n",
+        );
+        return Ending::Unread;
+    }
+    let mut slots = [0u64; 1024];
+    let mut text = [0u8; 17500];
+    let k = late_text::late(&input[..n], &mut slots, &mut text);
+    standard::write_all(&text[..k])
+}
+
+// `report` with its exit status, which is one of those of `Ending::status`.
 #[no_mangle]
 pub extern "C" fn wharfthrum_program() -> u8
     ensures { λ r. ⌜ r ≤ 2 ⌝ }
 {
     report().status()
+}
+
+// The same for `late`.
+#[no_mangle]
+pub extern "C" fn wharfthrum_late_program() -> u8
+    ensures { λ r. ⌜ r ≤ 2 ⌝ }
+{
+    late().status()
 }
