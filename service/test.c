@@ -461,21 +461,23 @@ static int done_late(WharfthrumLate late, size_t count, const uint64_t *at, size
     return held;
 }
 
-/* Builds from the first entries of a list, and claims the others late. After each the slots are those of a build afresh that has it in its list. */
+/* Builds from the first entries of a list, and claims the others late. After each the slots are those of a build afresh that has it in its list,
+ * and so is the map: nothing is registered behind the list. */
 static int as_afresh(uint8_t flags, uint64_t low, uint64_t high, const Entry *list, unsigned first, unsigned entries)
 {
     static uint64_t afresh[NUMBERS];
+    static WharfthrumMap map_afresh;
     order_under(&file, flags, low, high, NULL, list, first, NULL);
     WharfthrumReport built = build_map(&file, NUMBERS);
     int held = built.number == 0;
     size_t used = built.count, most = used;
     for (unsigned i = first; i < entries; i++) {
         order_under(&file, flags, low, high, NULL, list, i + 1, NULL);
-        WharfthrumReport again = wharfthrum_build(file.at, file.len, afresh, NUMBERS);
+        WharfthrumReport again = wharfthrum_build_map(file.at, file.len, afresh, NUMBERS, &map_afresh);
         WharfthrumLate late = claim_late(list[i], slots, NUMBERS, used);
         most = late.count > most ? late.count : most;
         held = held && again.number == 0 && done_late(late, again.count, slots, most, NUMBERS);
-        held = held && memcmp(slots, afresh, 16 * late.count) == 0;
+        held = held && memcmp(slots, afresh, 16 * late.count) == 0 && memcmp(&map, &map_afresh, sizeof map) == 0;
         used = late.count;
     }
     return held;
@@ -591,6 +593,7 @@ static void late_full(void)
     expect(refuses_late(inside, 1026, 512, 2), "2: a late claim on a full map");
     expect(refuses_late(inside, 1024, 512, 2), "2 before 3");
     expect(refuses_late(inside, 1026, 514, 14), "14 before 2");
+    expect(refuses_late((Entry){0x4000, 0x2000, 0x101}, 1026, 512, 2), "2: a late claim that touches one of another kind");
     expect(claim_in_table((Entry){0x1000000, 0, 0x101}, 1026, 512).number == 0 && all_unchanged(), "size 0 on a full map");
     WharfthrumLate late = claim_in_table((Entry){0x4000, 0x2000, 3}, 1026, 512);
     expect(done_late(late, 512, table, 512, 1026), "a full map: a claim that touches one of its kind");

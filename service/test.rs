@@ -152,7 +152,7 @@ fn stored_cases(t: &mut Tally, cases: &[u8], names: &str) {
         t.expect(text_of(file).as_deref() == Some(*text), "a stored case: its text");
         t.expect(number(file) == refused, "a stored case: its number");
         t.expect(build(file, &mut [PATTERN; 2 * SLOTS]).number == refused, "a stored case: its build");
-        t.expect(builds_agree(file), "a stored case: its build with the map");
+        t.expect(builds_agree(file, 2 * SLOTS), "a stored case: its build with the map");
     }
     let board = names.lines().position(|name| name == "an unreadable ranges of /soc, a virtual board: 8");
     let arm = names.lines().position(|name| name == "the same, for 64-bit ARM: done");
@@ -194,7 +194,8 @@ impl Dice {
     }
 }
 
-/// Late claims one after the other, each beside a build afresh that has it in its list.
+/// Late claims one after the other, each beside a build afresh that has it in its list: the same slots, and the same map, since nothing is
+/// registered behind the list.
 fn late_as_afresh(t: &mut Tally) {
     let mut dice = Dice(0x5eed);
     for _ in 0..200 {
@@ -207,12 +208,13 @@ fn late_as_afresh(t: &mut Tally) {
         for _ in 0..12 {
             let claim = dice.entry(&[2, 3, 0x100, 0x101, 0x102]);
             list.push(claim);
-            let mut afresh = [PATTERN; 2 * SLOTS];
-            let built = build(&order_under(low, high, [[0; 2]; 5], &list), &mut afresh);
+            let (mut afresh, mut map_afresh) = ([PATTERN; 2 * SLOTS], Map([PATTERN; MAP]));
+            let built = build_map(&order_under(low, high, [[0; 2]; 5], &list), &mut afresh, &mut map_afresh);
             t.expect(claim_late(&mut map, claim, &mut slots, count) == [0, built.count] && built.number == 0, "a late claim: its count");
             count = built.count as usize;
             most = most.max(count);
             t.expect(slots[..2 * count] == afresh[..2 * count], "a late claim: as built afresh");
+            t.expect(map == map_afresh, "a late claim: the map as built afresh");
             t.expect(slots[2 * count..2 * most].iter().all(|number| *number == 0), "a late claim: slots out of use are zero");
             t.expect(slots[2 * most..].iter().all(|number| *number == PATTERN), "a late claim: all past them is untouched");
         }
@@ -270,8 +272,8 @@ fn late_elsewhere(t: &mut Tally, s: &[u8]) {
 }
 
 /// A build with its map answers and leaves what one without does; a refusal leaves the map's memory.
-fn builds_agree(file: &[u8]) -> bool {
-    let (mut a, mut b, mut map) = ([PATTERN; 2 * SLOTS], [PATTERN; 2 * SLOTS], Map([PATTERN; MAP]));
+fn builds_agree(file: &[u8], numbers: usize) -> bool {
+    let (mut a, mut b, mut map) = (vec![PATTERN; numbers], vec![PATTERN; numbers], Map([PATTERN; MAP]));
     let (plain, with_map) = (fields(build(file, &mut a)), fields(build_map(file, &mut b, &mut map)));
     plain == with_map && a == b && (plain[0] != 0) == (map == Map([PATTERN; MAP]))
 }
@@ -301,6 +303,7 @@ fn main() {
         t.expect(fields(build(&s, &mut slots)) == [3, 0, 0, 0, 0, 0], "S: refused in less than 3 slots");
         t.expect(slots.iter().all(|number| *number == PATTERN), "S: a refusal writes nothing");
     }
+    t.expect((0..9).all(|numbers| builds_agree(&s, numbers)), "S: the same with its map");
     t.expect(number(&s) == 0, "S: its number");
     t.expect(text_of(&s) == fs::read(stdout).ok(), "S: its text");
 
