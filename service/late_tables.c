@@ -1,13 +1,13 @@
-/* late_tables: makes late claims on tables that are read from standard input, and writes what the library answers to standard output, so that
- * another judge can be asked the same. All numbers are 64 bits, the lowest byte first. A case is
+/* late_tables: makes late claims on tables that are read from standard input, and writes what the library answers to standard output, so
+ * that another judge can be asked the same. All numbers are 64 bits, the lowest byte first. A case is
  *
  *     how many bytes the order file has, and these bytes
  *     base, size, kind        the claim
  *     count                   how many slots are used
  *     K, and K numbers        the lent numbers
  *
- * and cases follow one another until the input ends. The map is that of wharfthrum_build_map on the order file, with 512 slots of its own. The
- * answer to a case is
+ * and cases follow one another until the input ends. The map is that of wharfthrum_build_map on the order file, with 512 slots of its own.
+ * The answer to a case is
  *
  *     the number of that build; where it is not 0, nothing else
  *     number, count           what wharfthrum_claim_late answers

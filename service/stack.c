@@ -87,8 +87,8 @@ static void *build_map(void *file)
     return r.number == 0 && r.count == count ? file : NULL;
 }
 
-/* A claim inside the one area of a table from elsewhere, on the map that `build_map` left: with no slot for the second piece, and with one. The
- * carved file's map is full. */
+/* A claim inside the one area of a table from elsewhere, on the map that `build_map` left: with no slot for the second piece, and with one.
+ * The carved file's map is full. */
 static void *claim_late(void *file)
 {
     uint64_t table[4] = {0x1000000, 0x3000, 0, 0};

@@ -461,8 +461,8 @@ static int done_late(WharfthrumLate late, size_t count, const uint64_t *at, size
     return held;
 }
 
-/* Builds from the first entries of a list, and claims the others late. After each the slots are those of a build afresh that has it in its list,
- * and so is the map: nothing is registered behind the list. */
+/* Builds from the first entries of a list, and claims the others late. After each the slots are those of a build afresh that has it in its
+ * list, and so is the map: nothing is registered behind the list. */
 static int as_afresh(uint8_t flags, uint64_t low, uint64_t high, const Entry *list, unsigned first, unsigned entries)
 {
     static uint64_t afresh[NUMBERS];
@@ -486,7 +486,8 @@ static int as_afresh(uint8_t flags, uint64_t low, uint64_t high, const Entry *li
 static void late_as_afresh(void)
 {
     /* 256 Free pages, every fourth 16 of them reserved, and more Free memory up to T */
-    static Entry list[24] = {{0, 0x100000, 1}, {0x30000, 0x10000, 3}, {0x70000, 0x10000, 3}, {0xb0000, 0x10000, 3}, {T - 0x10000, 0x20000, 1}};
+    static Entry list[23] = {
+        {0, 0x100000, 1}, {0x30000, 0x10000, 3}, {0x70000, 0x10000, 3}, {0xb0000, 0x10000, 3}, {T - 0x10000, 0x20000, 1}};
     static const Entry claims[18] = {
         {0x10000, 0x1000, 0x101},     /* inside an area */
         {0x10800, 0x1000, 2},         /* rounded outward, over what is claimed */

@@ -1,6 +1,6 @@
 //! test STDIN STDOUT CASES NAMES: calls the library from Rust, and compares with what document 01 says. The first two files are case S and
-//! the text that the document prints for it; the others have stored order files with their texts, and what the first of them are. Late claims,
-//! of document 02, are compared with a build afresh.
+//! the text that the document prints for it; the others have stored order files with their texts, and what the first of them are. Late
+//! claims, of document 02, are compared with a build afresh.
 use std::{env, fs, process};
 
 const SLOTS: usize = 512;
@@ -34,7 +34,9 @@ unsafe extern "C" {
     fn wharfthrum_report(file: *const u8, bytes: usize, slots: *mut u64, text: *mut u8) -> usize;
     fn wharfthrum_number(file: *const u8, bytes: usize) -> u64;
     fn wharfthrum_build_map(file: *const u8, bytes: usize, slots: *mut u64, numbers: usize, map: *mut Map) -> WharfthrumReport;
-    fn wharfthrum_claim_late(map: *mut Map, base: u64, size: u64, kind: u64, slots: *mut u64, numbers: usize, count: usize) -> WharfthrumLate;
+    fn wharfthrum_claim_late(
+        map: *mut Map, base: u64, size: u64, kind: u64, slots: *mut u64, numbers: usize, count: usize,
+    ) -> WharfthrumLate;
 }
 
 /// What a service would write: the calls over slices.

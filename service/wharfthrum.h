@@ -5,8 +5,8 @@
  * of the file, keeps nothing, and shares nothing with another call: threads may call at once, each with WHARFTHRUM_STACK bytes of stack.
  * Slots are aligned as uint64_t is; lengths are true; what one call is lent does not overlap.
  *
- * For a boot stage that learns of a window late (document 02, L3): a build that leaves its map in the caller's memory, and a claim on that map
- * and on the finished table. The memory of the map is the one thing that the caller keeps for the library: see WharfthrumMap. */
+ * For a boot stage that learns of a window late (document 02, L3): a build that leaves its map in the caller's memory, and a claim on that
+ * map and on the finished table. The memory of the map is the one thing that the caller keeps for the library: see WharfthrumMap. */
 #ifndef WHARFTHRUM_H
 #define WHARFTHRUM_H
 
@@ -24,8 +24,8 @@ extern "C" {
 /* Bytes of the longest order file. A longer one is refused by its length alone, so no more than one byte more need be read. */
 #define WHARFTHRUM_FILE 65536
 /* Bytes of stack for a thread that makes any of the calls. The most that we found is 214 KiB, with the 5 that the thread itself takes: for
- * wharfthrum_number, on one Free range carved by 511 reservations given from the top down. For wharfthrum_claim_late it is 37 KiB. Measured and
- * not proved: service/stack.c. */
+ * wharfthrum_number, on one Free range carved by 511 reservations given from the top down. For wharfthrum_claim_late it is 37 KiB. Measured
+ * and not proved: service/stack.c. */
 #define WHARFTHRUM_STACK 262144
 
 /* The numbers, in the order in which they are checked: the first fault decides. */
@@ -49,7 +49,7 @@ enum {
     WHARFTHRUM_LATE_NOT_LATE = 13,     /* the kind is Null or Free */
     WHARFTHRUM_LATE_BAD_TABLE = 14,    /* the count is above the slots, or the areas are no table: see wharfthrum_claim_late */
     WHARFTHRUM_LATE_MAP_FULL = 2,      /* the map is full */
-    WHARFTHRUM_LATE_TOO_MANY_AREAS = 3 /* the claim makes two areas of one, and there is no slot for it */
+    WHARFTHRUM_LATE_TOO_MANY_AREAS = 3 /* the claim makes two areas of one, and there is no slot for the second */
 };
 
 /* What a build answers. A refusal has 0 in every field but the first. */
@@ -65,8 +65,8 @@ typedef struct WharfthrumReport {
 /* Numbers of a map's memory: 12,296 bytes. */
 #define WHARFTHRUM_MAP 1537
 
-/* The memory of a map, lent by the caller and kept by it between the calls: the starts of the map's 512 entries, their ends, their kinds, and
- * how many are held. It may be copied and moved as a whole. ONLY wharfthrum_build_map AND wharfthrum_claim_late MAY CHANGE A NUMBER OF
+/* The memory of a map, lent by the caller and kept by it between the calls: the starts of the map's 512 entries, their ends, their kinds,
+ * and how many are held. It may be copied and moved as a whole. ONLY wharfthrum_build_map AND wharfthrum_claim_late MAY CHANGE A NUMBER OF
  * IT, and none is handed to wharfthrum_claim_late before a build into it answered 0. A caller that does otherwise breaks what is proved:
  * then nothing is promised, not even that other memory is left alone. */
 typedef struct WharfthrumMap {
@@ -94,15 +94,16 @@ uint64_t wharfthrum_number(const uint8_t *file, size_t bytes);
  * read. A refusal leaves it as it was. */
 WharfthrumReport wharfthrum_build_map(const uint8_t *file, size_t bytes, uint64_t *slots, size_t numbers, WharfthrumMap *map);
 
-/* A late claim of any kind but Null and Free, by the number of its kind: it enters the map, and of the areas in the first `count` slots, those
- * that the claim overlaps, rounded outward to whole pages, are edited where they stand. The areas after them move, slots that fall out of
- * use become zero, and all past these is untouched. Size 0, once 1, 13 and 14 are checked, is done and changes nothing. A refusal leaves
- * every number of the map and of the slots.
+/* A late claim, of kind 2 Reclaim, 3 Reserved, 0x100 Kernel, 0x101 Device or 0x102 IdentityMap: it enters the map, and those of the areas in
+ * the first `count` slots that the claim overlaps, rounded outward to whole pages, are edited where they stand. The areas after them move,
+ * slots that fall out of use become zero, and all past these is untouched. Size 0, once 1, 13 and 14 are checked, is done and changes
+ * nothing. A refusal leaves every number of the map and of the slots.
  *
- * If the table came from this map, by a build or by earlier late claims, it is afterwards that of a build afresh with the claim in the file's list.
- * A table from elsewhere is allowed, of any count and with any numbers: 14 says that it is none. A table's areas ascend, each base and size is a
- * multiple of 4,096, no size is 0, no two areas touch, and none ends past 2^64 - 4,096. `numbers` is the count of the numbers lent, so
- * numbers / 2 slots. For a table that came from its map 512 slots are always enough; another can gain one area by a claim. */
+ * If the table came from this map, by a build or by earlier late claims, it is afterwards that of a build afresh with the claim in the
+ * file's list. A table from elsewhere is allowed, of any count and with any numbers: 14 says that it is none. A table's areas ascend, each
+ * base and size is a multiple of 4,096, no size is 0, no two areas touch, and none ends past 2^64 - 4,096. `numbers` is the count of the
+ * numbers lent, so numbers / 2 slots. For a table that came from its map 512 slots are always enough; another can gain one area by a
+ * claim. */
 WharfthrumLate wharfthrum_claim_late(WharfthrumMap *map, uint64_t base, uint64_t size, uint64_t kind, uint64_t *slots, size_t numbers,
                                      size_t count);
 
