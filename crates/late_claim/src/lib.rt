@@ -77,7 +77,7 @@ fn refused(answer: Answer) -> LateAnswer
 }
 
 // Enters a claim that was judged, in place. Only a claim that no slot of the table is left for has the map copied, to tell 2 from 3.
-pub fn enter_in(
+fn enter_in(
     starts: &mut [u64; 512],
     ends: &mut [u64; 512],
     kinds: &mut [u64; 512],

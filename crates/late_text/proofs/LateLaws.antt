@@ -24,7 +24,7 @@ use Rattle.late_claim.specs.Late.{lateNumber}
 use Rattle.late_claim.proofs.Claiming.{zero-done, other}
 use Rattle.late_run.specs.declared.LateRun.{LateRun}
 use Rattle.late_run.specs.Run.{Run, lateAll, ran}
-use Rattle.late_text.specs.Text.{madeLine, refusedAtLine, lastLine, linesOf, runText, textBehind, lateText}
+use Rattle.late_text.specs.Text.{madeLine, refusedAtLine, lastLine, linesOf, runText, textBehind, lateText, lateSlots}
 
 -- ── The last line: k is the answer's number ──
 module _ (a : LateAnswer) (i : ℕ) {k : ℕ} (is : k ≡ lateNumber a) where
@@ -46,19 +46,39 @@ module _ {p : ℕ} (s : List ℕ) {l l′ : List ℕ} {e : ℕ} {x : Start} (end
   pub start-made : Page p → Made p (x .map)
   start-made g = rw (starts .map) (left-made p (take e s) l g)
 
+  -- the report, of the file itself
+  report-is : reportOf p (take (fileEnd s) s) l ≡ x .report
+  report-is = rw (← end) (sym (starts .reports .report))
+
   pub text-refused : {f : Refusal} {k : ℕ} → x .report ≡ Refused f → k ≡ refusalNumber f → refusedLine k ≡ lateText p s l
   unfolding lateText textBehind
   text-refused {f} {k} d is =
-      let r : reportOf p (take (fileEnd s) s) l ≡ Refused f = rw (← end, ← starts .reports .report) d in
+      let r : reportOf p (take (fileEnd s) s) l ≡ Refused f = report-is ∙ d in
       rw (r, is)
+
+  pub slots-refused : {f : Refusal} → x .report ≡ Refused f → l′ ≡ lateSlots p s l
+  unfolding lateSlots
+  slots-refused {f} d =
+      let r : reportOf p (take (fileEnd s) s) l ≡ Refused f = report-is ∙ d in
+      rw (r, ← end) (starts .reports .slots)
 
   -- what the code cuts off behind the file is all that is there
   behind : take (length s - e) (drop e s) ≡ drop e s
   behind = ap (λ (k : ℕ). take k (drop e s)) (sym (length-drop e s)) ∙ take-length (drop e s)
 
-  pub text-done : {n : ℕ} {sheet : PageSheet} → x .report ≡ Done n sheet → {y : LateRun} {l″ : List ℕ}
-      → ran y l″ ≡ lateAll p (x .map) n l′ 0 (claims (take (length s - e) (drop e s))) → linesOf (y .count) l″ (y .answer) (y .index) ≡ lateText p s l
-  unfolding lateText textBehind
-  text-done {n} {sheet} d {y} {l″} run =
-      let r : reportOf p (take (fileEnd s) s) l ≡ Done n sheet = rw (← end, ← starts .reports .report) d in
-      rw (r, ← end, ← starts .map, ← starts .reports .slots, ← behind) (ap runText run)
+  -- what the claims behind the file left
+  module _ {n : ℕ} {sheet : PageSheet} (done : x .report ≡ Done n sheet) {y : LateRun} {l″ : List ℕ}
+      (run : ran y l″ ≡ lateAll p (x .map) n l′ 0 (claims (take (length s - e) (drop e s)))) where
+    is-done : reportOf p (take (fileEnd s) s) l ≡ Done n sheet
+    is-done = report-is ∙ done
+
+    run-is : ran y l″ ≡ lateAll p (mapLeft p (take (fileEnd s) s) l) n (slotsAfter p (take (fileEnd s) s) l) 0 (claims (drop (fileEnd s) s))
+    run-is = rw (← end, ← starts .map, ← starts .reports .slots, ← behind) run
+
+    pub text-done : linesOf (y .count) l″ (y .answer) (y .index) ≡ lateText p s l
+    unfolding lateText textBehind
+    text-done = rw is-done (ap runText run-is)
+
+    pub slots-done : l″ ≡ lateSlots p s l
+    unfolding lateSlots
+    slots-done = rw is-done (ap (λ (z : Run). z .table) run-is)

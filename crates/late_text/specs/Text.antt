@@ -50,3 +50,12 @@ textBehind p f t l = textBy p f t l (reportOf p f l)
 -- THE TEXT of an input s, for lent slots l: "an order file and, right after its end .., late claims of 24 bytes"
 unfoldable pub lateText : ℕ → List ℕ → List ℕ → List ℕ
 lateText p s l = textBehind p (take (fileEnd s) s) (drop (fileEnd s) s) l
+
+-- the slots when the claims are made; those of a refused build are as they were
+abbrev pub slotsBy : ℕ → List ℕ → List ℕ → List ℕ → Report → List ℕ
+slotsBy p f t l (Done n sheet) = lateAll p (mapLeft p f l) n (slotsAfter p f l) 0 (claims t) .table
+slotsBy p f t l (Refused r) = slotsAfter p f l
+
+-- THE SLOTS after an input s, where they were l
+unfoldable pub lateSlots : ℕ → List ℕ → List ℕ → List ℕ
+lateSlots p s l = slotsBy p (take (fileEnd s) s) (drop (fileEnd s) s) l (reportOf p (take (fileEnd s) s) l)

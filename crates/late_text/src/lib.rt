@@ -1,9 +1,10 @@
 // The text of late claims behind an order file: the areas when they are made, and how many were, or which was refused. Request L3 of
 // document 02, its program.
+ghost use mathlib.Core.Path.{_≡_};
 ghost use Prim.Native.Nat.{_+_, _≤_};
 ghost use lib.ListN.{length};
 ghost use Rattle.report_text.specs.Writing.{Writes};
-ghost use Rattle.late_text.specs.Text.{labelled, lastLine, linesOf, lateText};
+ghost use Rattle.late_text.specs.Text.{labelled, lastLine, linesOf, lateText, lateSlots};
 use late_claim::LateAnswer;
 use report_text::listed;
 use report_text::put;
@@ -57,6 +58,7 @@ fn put_run(
 // up to the first that is refused, and puts the text at the start of the buffer.
 pub fn late(input: &[u8], slots: &mut [u64; 1024], out: &mut [u8; 17500]) -> usize
     ensures { λ r. ⌜ Writes (now (out .entry)) 0 (lateText 4096 (now (input .entry)) (now (slots .entry))) (now (out .exit)) r ⌝ }
+    ensures { λ _. ⌜ now (slots .exit) ≡ lateSlots 4096 (now (input .entry)) (now (slots .entry)) ⌝ }
 {
     let end = order::file_end(input);
     let start = startup::init_map(&input[..end], slots);

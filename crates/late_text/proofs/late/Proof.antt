@@ -1,9 +1,9 @@
--- `late` meets its contract: by what the build reported the text is the refusal or that of the run (LateLaws). Assumes nothing.
+-- `late` meets its contract: by what the build reported, the text and the slots are those of the refusal or of the run (LateLaws). Assumes nothing.
 use native.Mathlib.Omega.{arith}
 use lib.ListN.{length-take}
 use Rattle.page.proofs.Laws.{page}
 use Rattle.report_text.proofs.WritingLaws.{same-text}
-use Rattle.late_text.proofs.LateLaws.{start-made, text-refused, text-done}
+use Rattle.late_text.proofs.LateLaws.{start-made, text-refused, slots-refused, text-done, slots-done}
 use borrow.Author.Needs.{needs}
 use Rattle.late_text.proofs.late.Statement.{statement}
 use Rattle.late_text.proofs.late.Tie as tie
@@ -51,8 +51,11 @@ returns : tie.Need-returns
 returns c =
     let b = c .before .before .before .before .before .before in
     let e = b .before .before .before in
-    same-text (c .put-refusal .ensures)
-    (text-refused (e .before .before .args .input .now) (e .file-end .ensures .0) (b .init-map .ensures) (c .before .before .before .before .report .given .1) (c .before .number .ensures))
+    let s = e .before .before .args .input .now in
+    let d = c .before .before .before .before .report .given .1 in (
+      same-text (c .put-refusal .ensures) (text-refused s (e .file-end .ensures .0) (b .init-map .ensures) d (c .before .number .ensures)),
+      slots-refused s (e .file-end .ensures .0) (b .init-map .ensures) d,
+    )
 
 returns-2 : tie.Need-returns-2
 returns-2 c =
@@ -60,8 +63,10 @@ returns-2 c =
     let d = r .before .before .before .before in
     let b = d .before .before in
     let e = b .before .before .before in
-    same-text (c .put-run .ensures)
-    (text-done (e .before .before .args .input .now) (e .file-end .ensures .0) (b .init-map .ensures) (d .report2 .given .1) (r .claim-all .ensures))
+    let s = e .before .before .args .input .now in (
+      same-text (c .put-run .ensures) (text-done s (e .file-end .ensures .0) (b .init-map .ensures) (d .report2 .given .1) (r .claim-all .ensures)),
+      slots-done s (e .file-end .ensures .0) (b .init-map .ensures) (d .report2 .given .1) (r .claim-all .ensures),
+    )
 
 pub late-spec : {M : Type 1} → statement M
 late-spec =
