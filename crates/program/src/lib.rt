@@ -34,7 +34,7 @@ pub fn late() -> Ending {
     }
     let mut slots = [0u64; 1024];
     let mut text = [0u8; 17500];
-    let k = late_text::late(&input[..n], &mut slots, &mut text);
+    let k = report_text::late(&input[..n], &mut slots, &mut text);
     standard::write_all(&text[..k])
 }
 

@@ -39,10 +39,10 @@ late-requires : tie.Need-late-requires
 late-requires c κs = search needs
 
 array-share-prefix-text : tie.Need-array-share-prefix-text
-array-share-prefix-text c = text-inside (c .late .ensures)
+array-share-prefix-text c = text-inside (c .late .ensures .0)
 
 slice-aggregate-write-all-2 : tie.Need-slice-aggregate-write-all-2
-slice-aggregate-write-all-2 c = text-length (c .before .late .ensures)
+slice-aggregate-write-all-2 c = text-length (c .before .late .ensures .0)
 
 write-all-requires-2 : tie.Need-write-all-requires-2
 write-all-requires-2 c κs = search needs

@@ -3,12 +3,12 @@ use mathlib.Core.Path.{_≡_}
 use native.Mathlib.Omega.{arith}
 use lib.ListN.{length}
 use denote.Ref.{now}
 use Rattle.report_text.proofs.TextLaws.{count-length, areas-length}
 use Rattle.report_text.proofs.WritingLaws.{kept, same-text, writes-append}
-use Rattle.late_text.proofs.LateLaws.{lines-of}
+use Rattle.report_text.proofs.LateLaws.{lines-of}
 use borrow.Author.Needs.{needs}
-use Rattle.late_text.proofs.put_run.Statement.{statement}
-use Rattle.late_text.proofs.put_run.Tie as tie
+use Rattle.report_text.proofs.put_run.Statement.{statement}
+use Rattle.report_text.proofs.put_run.Tie as tie
 
 put-count-requires : tie.Need-put-count-requires
 put-count-requires c κs = search needs

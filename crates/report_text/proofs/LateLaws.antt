@@ -18,13 +18,13 @@ use Rattle.startup.specs.Verdict.{refusalNumber}
 use Rattle.startup.specs.Report.{reportOf, slotsAfter}
 use Rattle.startup.specs.Start.{mapLeft, Starts}
 use Rattle.startup.proofs.StartLaws.{left-made}
 use Rattle.report_text.specs.Text.{countLine, areaLines, refusedLine}
 use Rattle.late_claim.specs.declared.LateAnswer.{LateAnswer}
 use Rattle.late_claim.specs.Late.{lateNumber}
 use Rattle.late_claim.proofs.Claiming.{zero-done, other}
 use Rattle.late_run.specs.declared.LateRun.{LateRun}
 use Rattle.late_run.specs.Run.{Run, lateAll, ran}
-use Rattle.late_text.specs.Text.{madeLine, refusedAtLine, lastLine, linesOf, runText, textBehind, lateText, lateSlots}
+use Rattle.report_text.specs.LateText.{madeLine, refusedAtLine, lastLine, linesOf, runText, textBehind, lateText, lateSlots}
 
 -- ── The last line: k is the answer's number ──
 module _ (a : LateAnswer) (i : ℕ) {k : ℕ} (is : k ≡ lateNumber a) where

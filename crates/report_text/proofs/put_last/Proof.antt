@@ -1,12 +1,12 @@
 -- `put_last` meets its contract: the answer picks the line (LateLaws), whose texts stand one behind the other (WritingLaws). Assumes nothing.
 use native.Mathlib.Omega.{arith}
 use Rattle.report_text.proofs.DigitsLaws.{decimal-length}
-use Rattle.late_text.specs.Text.{madeLine, refusedAtLine}
-use Rattle.late_text.proofs.LateLaws.{last-made, last-refused}
+use Rattle.report_text.specs.LateText.{madeLine, refusedAtLine}
+use Rattle.report_text.proofs.LateLaws.{last-made, last-refused}
 use Rattle.report_text.proofs.WritingLaws.{same-text, writes-append}
 use borrow.Author.Needs.{needs}
-use Rattle.late_text.proofs.put_last.Statement.{statement}
-use Rattle.late_text.proofs.put_last.Tie as tie
+use Rattle.report_text.proofs.put_last.Statement.{statement}
+use Rattle.report_text.proofs.put_last.Tie as tie
 
 number-requires : tie.Need-number-requires
 number-requires c κs = search needs

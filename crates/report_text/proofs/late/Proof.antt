@@ -2,11 +2,11 @@
 use native.Mathlib.Omega.{arith}
 use lib.ListN.{length-take}
 use Rattle.page.proofs.Laws.{page}
 use Rattle.report_text.proofs.WritingLaws.{same-text}
-use Rattle.late_text.proofs.LateLaws.{start-made, text-refused, slots-refused, text-done, slots-done}
+use Rattle.report_text.proofs.LateLaws.{start-made, text-refused, slots-refused, text-done, slots-done}
 use borrow.Author.Needs.{needs}
-use Rattle.late_text.proofs.late.Statement.{statement}
-use Rattle.late_text.proofs.late.Tie as tie
+use Rattle.report_text.proofs.late.Statement.{statement}
+use Rattle.report_text.proofs.late.Tie as tie
 
 file-end-requires : tie.Need-file-end-requires
 file-end-requires c κs = search needs

@@ -1,9 +1,9 @@
 -- `put_labelled` meets its contract: its texts stand one behind the other (WritingLaws). Assumes nothing.
 use native.Mathlib.Omega.{arith}
 use Rattle.report_text.proofs.WritingLaws.{writes-append}
 use borrow.Author.Needs.{needs}
-use Rattle.late_text.proofs.put_labelled.Statement.{statement}
-use Rattle.late_text.proofs.put_labelled.Tie as tie
+use Rattle.report_text.proofs.put_labelled.Statement.{statement}
+use Rattle.report_text.proofs.put_labelled.Tie as tie
 
 put-requires : tie.Need-put-requires
 put-requires c κs = search needs

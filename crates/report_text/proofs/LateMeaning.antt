@@ -13,10 +13,10 @@ use Rattle.order.proofs.EndLaws.{file-before, file-behind}
 use Rattle.startup.specs.declared.Report.{Report}
 use Rattle.startup.specs.declared.Report.the-variants.{Done, Refused}
 use Rattle.startup.specs.Report.{reportNumber, reportOf, slotsAfter}
 use Rattle.report_text.specs.Text.{countLine, areaLines, pagesLine, textOf, reportText}
 use Rattle.late_claim.specs.declared.LateAnswer.the-variants.{Done as LateDone}
 use Rattle.late_run.specs.Run.{Run, run, lateAll}
-use Rattle.late_text.specs.Text.{madeLine, linesOf, textBy, textBehind, lateText}
+use Rattle.report_text.specs.LateText.{madeLine, linesOf, textBy, textBehind, lateText}
 
 -- "an order file and, right after its end (its length is what its header says), late claims"
 pub split-text : (p : ℕ) {f : List ℕ} → GoodOrder f → (t l : List ℕ) → lateText p (f ++ t) l ≡ textBehind p f t l
@@ -37,9 +37,9 @@ module _ (p : ℕ) (s l : List ℕ) where
   rest = drop (fileEnd s) s
 
   -- "An order file that is refused prints `refused NUMBER` alone, as the report does."
-  pub refused-text : (reportNumber (reportOf p file l) ≡ 0 → ⊥) → lateText p s l ≡ reportText p file l
+  pub refused-alike : (reportNumber (reportOf p file l) ≡ 0 → ⊥) → lateText p s l ≡ reportText p file l
   unfolding lateText textBehind reportText textOf
-  refused-text = go (reportOf p file l)
+  refused-alike = go (reportOf p file l)
     where
       go : (r : Report) → (reportNumber r ≡ 0 → ⊥) → textBy p file rest l r ≡ textOf r (slotsAfter p file l)
       go (Done n sheet) f = absurd (f refl)

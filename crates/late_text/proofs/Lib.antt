@@ -1,2 +1,0 @@
-pub mod LateLaws
-pub mod Meaning
