@@ -1,4 +1,4 @@
--- `init_map` reads the order file, registers its sources, and finishes the areas; each way out is a case of the report, with the map beside it.
+-- `init_map` reads the order file, registers its sources, and finishes the areas; each way out is a case of the report, with the map beside it. Assumes nothing.
 use mathlib.Core.Path.{sym, _∙_}
 use Rattle.page.proofs.Laws.{page}
 use Rattle.startup.proofs.ReportLaws.{reports-no-order, map-made, reports-refused}

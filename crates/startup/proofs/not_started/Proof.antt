@@ -1,4 +1,4 @@
--- `not_started` puts the empty map beside the refusal.
+-- `not_started` puts the empty map beside the refusal. Assumes nothing.
 use mathlib.Core.Path.{ap}
 use Rattle.memory.specs.declared.MemoryMap.{MemoryMap}
 use Rattle.startup.specs.declared.Report.the-variants.{Refused}

@@ -1,4 +1,4 @@
--- `start_finished` keeps the map only beside areas (StartLaws).
+-- `start_finished` keeps the map only beside areas (StartLaws). Assumes nothing.
 use Rattle.startup.proofs.StartLaws.{start-refused, start-done}
 use borrow.Author.Needs.{needs}
 use Rattle.startup.proofs.start_finished.Statement.{statement}
