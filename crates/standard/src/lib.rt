@@ -11,7 +11,8 @@ pub enum Input {
     Failed,
 }
 
-// How a program that reads and then writes ends: all is written; a read failed, and nothing is written; or a write failed.
+// How a program that reads and then writes ends: all is written; a read failed, or more came than the program takes, and nothing is
+// written; or a write failed.
 pub enum Ending {
     Written,
     Unread,
