@@ -6,7 +6,7 @@ use Prim.Native.Nat.{ℕ, _≤_, _<_}
 use native.Mathlib.Omega.{arith}
 use lib.Dec.{leb}
 use lib.ListN.{length}
-use borrow.Author.Tests.{eq-eqb, ne-eqb, le-leb, lt-leb, leb-true, not-true, not-false}
+use borrow.Author.Tests.{eq-eqb, ne-eqb, le-leb, lt-leb, not-true, not-false}
 use Rattle.entry.specs.declared.MemoryEntry.{MemoryEntry}
 use Rattle.entry.specs.Claim.{Claim, rounded}
 use Rattle.memory.specs.declared.MemoryMap.{MemoryMap}
@@ -15,14 +15,13 @@ use Rattle.memory.specs.declared.Registered.{Registered}
 use Rattle.memory.specs.Map.{answered, nothing, inserted, registered, pass, begin}
 use Rattle.memory.specs.Run.{isDone}
 use Rattle.memory.proofs.MapLaws.{placed-ways, Way, no-kind, no-page, new-page, registered-way}
-use Rattle.areas.specs.Interval.{Interval}
 use Rattle.areas.specs.Areas.{span}
 use Rattle.areas.specs.Table.{slotsIn, fits}
 use Rattle.lent_table.specs.Table.{tableIn, GoodTable, tableWith}
 use Rattle.lent_table.specs.Less.{less}
-use Rattle.lent_table.specs.Steps.{Edits, Fitting, Edited}
+use Rattle.lent_table.specs.Edit.{crowds, Lent, lent, edited}
 use Rattle.lent_table.proofs.TableLaws.{table-length, good-exactly}
-use Rattle.lent_table.proofs.Editing.{table-same}
+use Rattle.lent_table.proofs.Editing.{table-same, good-crowds, good-edited}
 use Rattle.late_claim.specs.declared.LateAnswer.{LateAnswer}
 use Rattle.late_claim.specs.declared.LateAnswer.the-variants.{Done, MapFull, TooManyAreas}
 use Rattle.late_claim.specs.Late.{lessClaim, areasLeft, judged, entering, After, onDone, unchanged, entered, enterOf}
@@ -40,12 +39,6 @@ refused-map p m c e = go (registered p m c) (registered-way p m c) e
     go r (no-kind i) f = refl
     go r (no-page i j) f = refl
     go r (new-page s) f = new (rounded p c) f
-
--- a table that was judged can be edited
-pub judged-edits : (p kind n : ℕ) (l : List ℕ) → judged p kind n l ≡ Done → (c : Interval) → c .lo < c .hi → Edits c l n
-judged-edits p kind n l done c some =
-    let g : GoodTable p n l = good-exactly p n l .0 (checked p kind n l done .good) in
-    record { solid = some; room = g .room; ascend = g .shape .ascend }
 
 -- the answer in hand
 pub enter-at : (p : ℕ) (m : MemoryMap) (c : Claim) (n : ℕ) (l : List ℕ) (a : LateAnswer) → entering p m c n l ≡ a
@@ -96,31 +89,39 @@ module _ (p : ℕ) (m : MemoryMap) (c : Claim) (n : ℕ) (l : List ℕ) (done : 
       unfolding entering
       entering-is done room e f = rw (e, left-is, f)
 
-      pub enter-crowded : not (fits (less (span pages) (tableIn n l)) l) ≡ true → {r : Registered} → r ≡ registered p m c
+      -- the table was judged, so what the calls on it say is of its areas less the claim
+      crowds-is : crowds (span pages) n l ≡ not (fits (less (span pages) (tableIn n l)) l)
+      crowds-is = good-crowds p n l (span pages) (check .good) some
+
+      pub enter-crowded : crowds (span pages) n l ≡ true → {r : Registered} → r ≡ registered p m c
           → {a : LateAnswer} → a ≡ cond (isDone (r .answer)) TooManyAreas MapFull → unchanged m n l a ≡ enterOf p m c n l
       enter-crowded full {r} q {a} z = go (isDone (registered p m c .answer)) refl (z ∙ ap (λ (x : Registered). cond (isDone (x .answer)) TooManyAreas MapFull) q)
         where
+          none : fits (less (span pages) (tableIn n l)) l ≡ false
+          none = not-true _ (sym crowds-is ∙ full)
+
           go : (t : Bool) → isDone (registered p m c .answer) ≡ t → a ≡ cond (isDone (registered p m c .answer)) TooManyAreas MapFull → unchanged m n l a ≡ enterOf p m c n l
           go true u v =
               let w : a ≡ TooManyAreas = v ∙ rw u in
-              rw w (sym (enter-at p m c n l TooManyAreas (entering-is true false u (not-true _ full))))
+              rw w (sym (enter-at p m c n l TooManyAreas (entering-is true false u none)))
           go false u v =
               let w : a ≡ MapFull = v ∙ rw u in
-              rw w (sym (enter-at p m c n l MapFull (entering-is false false u (not-true _ full))))
+              rw w (sym (enter-at p m c n l MapFull (entering-is false false u none)))
 
-      module _ (room : not (fits (less (span pages) (tableIn n l)) l) ≡ false) {r : Registered} (q : r ≡ registered p m c) where
-        pub enter-fitting : Fitting (span pages) l n
-        enter-fitting = record { asks = judged-edits p (c .kind) n l done (span pages) some; enough = leb-true _ _ (not-false (fits (less (span pages) (tableIn n l)) l) room) }
+      module _ (room : crowds (span pages) n l ≡ false) {r : Registered} (q : r ≡ registered p m c) where
+        enough : fits (less (span pages) (tableIn n l)) l ≡ true
+        enough = not-false _ (sym crowds-is ∙ room)
 
         pub enter-full : isDone (r .answer) ≡ false → unchanged (r .map) n l MapFull ≡ enterOf p m c n l
         enter-full u =
             let v : isDone (registered p m c .answer) ≡ false = rw q at u in
             let k : r .map ≡ m = ap (λ (x : Registered). x .map) q ∙ refused-map p m c v in
-            rw k (sym (enter-at p m c n l MapFull (entering-is false true v (not-false _ room))))
+            rw k (sym (enter-at p m c n l MapFull (entering-is false true v enough)))
 
-        pub enter-done : r .answer ≡ answer.Done → {l′ : List ℕ} {n′ : ℕ} → Edited (span pages) l n l′ n′
+        pub enter-done : r .answer ≡ answer.Done → {l′ : List ℕ} {n′ : ℕ} → lent n′ l′ ≡ edited (span pages) n l
             → _≡_ {A = After} (record { map = r .map; count = n′; table = l′; answer = Done }) (enterOf p m c n l)
         enter-done u {l′} {n′} d =
             let v : isDone (registered p m c .answer) ≡ true = rw q at (ap isDone u) in
-            entered-is p m c n l (r .map) n′ l′ (ap (λ (x : Registered). x .map) q) (rw left-is (d .count)) (rw left-is (d .table))
-            ∙ sym (enter-at p m c n l Done (entering-is true true v (not-false _ room)))
+            let e = d ∙ good-edited p n l (span pages) (check .good) some enough in
+            entered-is p m c n l (r .map) n′ l′ (ap (λ (x : Registered). x .map) q) (rw left-is (ap (λ (x : Lent). x .count) e)) (rw left-is (ap (λ (x : Lent). x .numbers) e))
+            ∙ sym (enter-at p m c n l Done (entering-is true true v enough))

@@ -1,25 +1,27 @@
 -- `edit` and `crowded`: one law for each way that the first area past lo lies, and how many areas are left. Assumes nothing.
-use mathlib.Core.Path.{_≡_, ap, ap₂, sym, _∙_}
+use mathlib.Core.Path.{_≡_, refl, ap, ap₂, sym, _∙_}
 use mathlib.Core.List.{List, [], _∷_, _++_, append-assoc}
 use mathlib.Core.Bool.{Bool, true, false, not}
+use mathlib.Core.Logic.{⊎-elim}
 use Prim.Native.Nat.{ℕ, suc, _+_, _-_, _/_, _≤_, _<_, max}
 use native.Mathlib.Omega.{arith}
-use native.Mathlib.Nat.{le-refl}
 use lib.Dec.{leb}
 use lib.ListN.{length, getD, set, drop, replicate, length-append}
 use lib.Seq.{drop-cons}
 use borrow.Author.Tests.{le-leb, lt-leb, leb-true, leb-false}
-use Rattle.areas.specs.Interval.{Interval, interval, Above}
+use Rattle.areas.specs.Interval.{Interval, interval}
 use Rattle.areas.specs.Table.{flat, slotsIn, fits}
+use Rattle.areas.proofs.Lists.{le-or-lt}
 use Rattle.areas.proofs.Writing.{flat-snoc}
-use Rattle.lent_table.specs.Table.{tableIn, tableWith}
+use Rattle.lent_table.specs.Table.{tableIn, goodTable, tableWith}
 use Rattle.lent_table.specs.Less.{less}
-use Rattle.lent_table.specs.Steps.{lead, Past, above, Rest, Rested, Splits, Parted, Edits, Fitting, Edited}
-use Rattle.lent_table.proofs.TableLaws.{table-length, table-flat, flat-append}
-use Rattle.lent_table.proofs.SlotLaws.{base-is, set-size}
-use Rattle.lent_table.proofs.LessLaws.{above-solid, less-nil, less-after, less-rest, less-short, cons-left, cons-split}
+use Rattle.lent_table.specs.Edit.{lead, above, cutHere, cutFrom, takes, crowds, lent, edited}
+use Rattle.lent_table.specs.Steps.{Past, Rest, Rested, Splits, Parted}
+use Rattle.lent_table.proofs.TableLaws.{table-length, table-flat, flat-append, good-exactly}
+use Rattle.lent_table.proofs.SlotLaws.{set-size}
 use Rattle.lent_table.proofs.Trimming.{lead-le, above-length}
-use Rattle.lent_table.proofs.Finding.{found, First, first}
+use Rattle.lent_table.proofs.CutLaws.{here-nil, here-after, here-inside, here-left, here-two, cut-short, cut-less}
+use Rattle.lent_table.proofs.Finding.{Takes, takes-is, found, First, first}
 
 -- ── edit ──
 module _ (l : List ℕ) (n : ℕ) where
@@ -39,139 +41,129 @@ module _ (l : List ℕ) (n : ℕ) where
       let z : n + n - (length (tableIn n l) + length (tableIn n l)) ≡ 0 = omega arith in
       table-flat n l room ∙ sym (with-fewer (tableIn n l) (omega arith) ∙ ap (λ (k : ℕ). flat (tableIn n l) ++ (replicate k 0 ++ drop (n + n) l)) z)
 
-module _ (c : Interval) (l : List ℕ) (n : ℕ) where
-  edited-done : (areas : List Interval) → less c (tableIn n l) ≡ areas → (k : ℕ) → k ≡ length areas → (l′ : List ℕ) → l′ ≡ tableWith areas n l → Edited c l n l′ k
-  edited-done areas e k q l′ t = record { count = rw e q; table = rw e t }
+  -- there is nothing to take away
+  pub edited-not : (c : Interval) → takes c n l ≡ false → lent n l ≡ edited c n l
+  unfolding edited
+  edited-not c e = rw e
 
-  edited-same : Edits c l n → less c (tableIn n l) ≡ tableIn n l → Edited c l n l n
-  edited-same edits e = edited-done (tableIn n l) e n (sym (table-length n l (omega (arith, edits .room)))) l (table-same l n (edits .room))
+module _ {c : Interval} {l : List ℕ} {n : ℕ} (takes : Takes c n l) where
+  edited-done : (areas : List Interval) → cutFrom c (tableIn n l) ≡ areas → length areas ≤ slotsIn l → (k : ℕ) → k ≡ length areas → (l′ : List ℕ) → l′ ≡ tableWith areas n l
+      → lent k l′ ≡ edited c n l
+  unfolding edited
+  edited-done areas e h k q l′ t = rw (takes-is c n l takes, e, le-leb (length areas) (slotsIn l) h, q, t)
 
-  edited-rest : Edits c l n → (l₁ l′ : List ℕ) (i k hi : ℕ) (pre more : List Interval) → less c (tableIn n l) ≡ pre ++ above hi more → length pre ≡ i → i + length more ≡ n
-      → Rest l₁ i n hi l′ k pre more (drop (n + n) l) → Edited c l n l′ k
-  edited-rest edits l₁ l′ i k hi pre more e lp ln rest =
+  edited-same : cutFrom c (tableIn n l) ≡ tableIn n l → lent n l ≡ edited c n l
+  edited-same e =
+      let size : length (tableIn n l) ≡ n = table-length n l (omega (arith, takes .room)) in
+      edited-done (tableIn n l) e (omega (arith, takes .room)) n (sym size) l (table-same l n (takes .room))
+
+  edited-full : (areas : List Interval) → cutFrom c (tableIn n l) ≡ areas → slotsIn l < length areas → lent n l ≡ edited c n l
+  unfolding edited
+  edited-full areas e h = rw (takes-is c n l takes, e, lt-leb (length areas) (slotsIn l) h)
+
+  edited-rest : (l₁ l′ : List ℕ) (i k hi : ℕ) (pre more : List Interval) → cutFrom c (tableIn n l) ≡ pre ++ above hi more → length pre ≡ i → i + length more ≡ n
+      → Rest l₁ i n hi l′ k pre more (drop (n + n) l) → lent k l′ ≡ edited c n l
+  edited-rest l₁ l′ i k hi pre more e lp ln rest =
       let ys = above hi more in
       let la : length (pre ++ ys) ≡ length pre + length ys = length-append pre ys in
       let ly : length ys ≡ length more - lead hi more = above-length hi more in
       let le : lead hi more ≤ length more = lead-le hi more in
       let k= : k ≡ length (pre ++ ys) = omega (arith, rest .count) in
       let z : n + n - (length (pre ++ ys) + length (pre ++ ys)) ≡ lead hi more + lead hi more = omega arith in
-      edited-done (pre ++ ys) e k k= l′
+      edited-done (pre ++ ys) e (omega (arith, takes .room)) k k= l′
       (rest .slots ∙ sym (with-fewer l n (pre ++ ys) (omega arith)
       ∙ flat-append pre ys (replicate (n + n - (length (pre ++ ys) + length (pre ++ ys))) 0 ++ drop (n + n) l)
       ∙ ap (λ (g : ℕ). flat pre ++ (flat ys ++ (replicate g 0 ++ drop (n + n) l))) z))
 
-module _ {c : Interval} {l : List ℕ} {n i : ℕ} (edits : Edits c l n) (past : Past l 0 n (c .lo) i) where
-  -- all areas end before the interval
-  pub edits-before : n ≤ i → Edited c l n l n
-  edits-before h =
-      let f = found edits past in
-      edited-same c l n edits (f .left ∙ ap (λ (m : List Interval). f .pre ++ m) (go (f .rest) (f .fill)) ∙ sym (f .whole))
+module _ {c : Interval} {l : List ℕ} {n i : ℕ} (takes : Takes c n l) (past : Past l 0 n (c .lo) i) where
+  -- all areas end before the range
+  cut-before : n ≤ i → cutFrom c (tableIn n l) ≡ tableIn n l
+  cut-before h =
+      let f = found takes past in
+      f .left ∙ ap (λ (m : List Interval). f .pre ++ m) (go (f .rest) (f .fill)) ∙ sym (f .whole)
     where
-      go : (rest : List Interval) → i + length rest ≡ n → less c rest ≡ rest
-      go [] e = less-nil c
+      go : (rest : List Interval) → i + length rest ≡ n → cutHere c rest ≡ rest
+      go [] e = here-nil c
       go (r ∷ more) e = absurd (omega arith)
 
-  -- the next area starts after it
-  pub edits-after : c .hi ≤ getD l (i + i) 0 → Edited c l n l n
-  edits-after h =
-      let f = found edits past in
-      edited-same c l n edits (f .left ∙ ap (λ (m : List Interval). f .pre ++ m) (go (f .rest) (f .pre) (f .count) (f .numbers) (f .ascend)) ∙ sym (f .whole))
-    where
-      go : (rest pre : List Interval) → length pre ≡ i → l ≡ flat pre ++ (flat rest ++ drop (n + n) l) → Above 0 rest → less c rest ≡ rest
-      go [] pre lp e up = less-nil c
-      go (r ∷ more) pre lp e up =
-          less-after c (edits .solid) (r ∷ more) (r .lo) (omega (arith, base-is l i pre r more (drop (n + n) l) lp e)) (le-refl (r .lo), up .1, up .2)
+  pub edits-before : n ≤ i → lent n l ≡ edited c n l
+  edits-before h = edited-same takes (cut-before h)
 
   module _ (lt : i < n) where
-    -- an area that starts in the interval, or ends in it, does not become two
-    few-rest : (pre more : List Interval) → less c (tableIn n l) ≡ pre ++ above (c .hi) more → length pre + length more ≡ n → length (less c (tableIn n l)) ≤ n
-    few-rest pre more e q =
-        omega (arith, ap length e, length-append pre (above (c .hi) more), above-length (c .hi) more)
+    -- the next area starts after it
+    cut-after : c .hi ≤ getD l (i + i) 0 → cutFrom c (tableIn n l) ≡ tableIn n l
+    cut-after h =
+        let f = first takes past lt in
+        f .left ∙ ap (λ (m : List Interval). f .pre ++ m) (here-after c (f .r) (f .more) (omega (arith, f .base))) ∙ sym (f .whole)
 
-    pub inside-few : c .lo ≤ getD l (i + i) 0 → length (less c (tableIn n l)) ≤ n
-    inside-few h =
-        let f = first edits past lt in
-        let from : c .lo ≤ f .r .lo = omega (arith, f .base) in
-        few-rest (f .pre) (f .r ∷ f .more)
-        (f .left ∙ ap (λ (m : List Interval). f .pre ++ m) (less-rest c (edits .solid) (f .r ∷ f .more) (f .r .lo) from (le-refl (f .r .lo), f .some, f .ascend)))
-        (omega (arith, f .count, f .fill))
+    pub edits-after : c .hi ≤ getD l (i + i) 0 → lent n l ≡ edited c n l
+    edits-after h = edited-same takes (cut-after h)
 
-    pub left-few : getD l (i + i) 0 < c .lo → getD l (i + i) 0 + getD l (i + i + 1) 0 ≤ c .hi → length (less c (tableIn n l)) ≤ n
-    left-few h e =
-        let f = first edits past lt in
-        let cut : Interval = interval (f .r .lo) (c .lo) in
-        few-rest (f .pre ++ (cut ∷ [])) (f .more)
-        (f .left ∙ ap (λ (m : List Interval). f .pre ++ m)
-        (cons-left c (edits .solid) (f .r) (f .more) (f .some) (omega (arith, f .base)) (f .stop) (omega (arith, f .base, f .size, f .some))
-        ∙ ap (λ (m : List Interval). cut ∷ m) (less-rest c (edits .solid) (f .more) (suc (f .r .hi)) (omega (arith, f .stop)) (f .ascend)))
-        ∙ sym (append-assoc (f .pre) (cut ∷ []) (above (c .hi) (f .more))))
-        (omega (arith, length-append (f .pre) (cut ∷ []), f .count, f .fill))
+    -- it starts in the range
+    module _ (b : getD l (i + i) 0 < c .hi) (h : c .lo ≤ getD l (i + i) 0) where
+      cut-inside : (f : First c l n i) → cutFrom c (tableIn n l) ≡ f .pre ++ above (c .hi) (f .r ∷ f .more)
+      cut-inside f =
+          f .left ∙ ap (λ (m : List Interval). f .pre ++ m) (here-inside c (f .r) (f .more) (omega (arith, f .base)) (omega (arith, f .base)))
 
-    -- it starts in the interval
-    pub edits-inside : c .lo ≤ getD l (i + i) 0 → (l′ : List ℕ) (k : ℕ) → Rested l i n (c .hi) l′ k → Edited c l n l′ k
-    unfolding Rested
-    edits-inside h l′ k rested =
-        let f = first edits past lt in
-        let from : c .lo ≤ f .r .lo = omega (arith, f .base) in
-        let up : Above (f .r .lo) (f .r ∷ f .more) = (le-refl (f .r .lo), f .some, f .ascend) in
-        let fill : i + length (f .r ∷ f .more) ≡ n = omega (arith, f .fill) in
-        edited-rest c l n edits l l′ i k (c .hi) (f .pre) (f .r ∷ f .more)
-        (f .left ∙ ap (λ (m : List Interval). f .pre ++ m) (less-rest c (edits .solid) (f .r ∷ f .more) (f .r .lo) from up))
-        (f .count) fill
-        (rested (f .pre) (f .r ∷ f .more) (drop (n + n) l) (f .count) fill (above-solid (f .r ∷ f .more) (f .r .lo) up) (f .numbers))
+      pub edits-inside : (l′ : List ℕ) (k : ℕ) → Rested l i n (c .hi) l′ k → lent k l′ ≡ edited c n l
+      unfolding Rested
+      edits-inside l′ k rested =
+          let f = first takes past lt in
+          let fill : i + length (f .r ∷ f .more) ≡ n = omega (arith, f .fill) in
+          edited-rest takes l l′ i k (c .hi) (f .pre) (f .r ∷ f .more) (cut-inside f) (f .count) fill
+          (rested (f .pre) (f .r ∷ f .more) (drop (n + n) l) (f .count) fill (f .order, f .upward) (f .numbers))
 
     module _ (h : getD l (i + i) 0 < c .lo) where
       -- it starts before, and ends in it
-      pub edits-left : getD l (i + i) 0 + getD l (i + i + 1) 0 ≤ c .hi → (l′ : List ℕ) (k : ℕ)
-          → Rested (set l (i + i + 1) (c .lo - getD l (i + i) 0)) (i + 1) n (c .hi) l′ k → Edited c l n l′ k
-      unfolding Rested
-      edits-left e l′ k rested =
-          let f = first edits past lt in
-          let cut : Interval = interval (f .r .lo) (c .lo) in
-          let pre : List Interval = f .pre ++ (cut ∷ []) in
-          let lp : length pre ≡ i + 1 = omega (arith, length-append (f .pre) (cut ∷ []), f .count) in
-          let v : c .lo - getD l (i + i) 0 ≡ c .lo - f .r .lo = omega (arith, f .base) in
-          let numbers : set l (i + i + 1) (c .lo - getD l (i + i) 0) ≡ flat pre ++ (flat (f .more) ++ drop (n + n) l) =
-          set-size l i (f .pre) (f .r) (f .more) (drop (n + n) l) (f .count) (f .numbers) (c .lo - getD l (i + i) 0)
-          ∙ ap (λ (w : ℕ). flat (f .pre) ++ (f .r .lo ∷ w ∷ (flat (f .more) ++ drop (n + n) l))) v
-          ∙ sym (flat-snoc (f .pre) cut (flat (f .more) ++ drop (n + n) l)) in
-          let left : less c (tableIn n l) ≡ pre ++ above (c .hi) (f .more) =
-          f .left ∙ ap (λ (m : List Interval). f .pre ++ m)
-          (cons-left c (edits .solid) (f .r) (f .more) (f .some) (omega (arith, f .base)) (f .stop) (omega (arith, f .base, f .size, f .some))
-          ∙ ap (λ (m : List Interval). cut ∷ m) (less-rest c (edits .solid) (f .more) (suc (f .r .hi)) (omega (arith, f .stop)) (f .ascend)))
-          ∙ sym (append-assoc (f .pre) (cut ∷ []) (above (c .hi) (f .more))) in
-          edited-rest c l n edits (set l (i + i + 1) (c .lo - getD l (i + i) 0)) l′ (i + 1) k (c .hi) pre (f .more) left lp (f .fill)
-          (rested pre (f .more) (drop (n + n) l) lp (f .fill) (above-solid (f .more) (suc (f .r .hi)) (f .ascend)) numbers)
+      module _ (e : getD l (i + i) 0 + getD l (i + i + 1) 0 ≤ c .hi) where
+        cut-left : (f : First c l n i) → cutFrom c (tableIn n l) ≡ (f .pre ++ (interval (f .r .lo) (c .lo) ∷ [])) ++ above (c .hi) (f .more)
+        cut-left f =
+            f .left ∙ ap (λ (m : List Interval). f .pre ++ m)
+            (here-left c (f .r) (f .more) (omega (arith, f .base, takes .some)) (omega (arith, f .base)) (omega (arith, f .base, f .size, f .order)))
+            ∙ sym (append-assoc (f .pre) (interval (f .r .lo) (c .lo) ∷ []) (above (c .hi) (f .more)))
 
+        pub edits-left : (l′ : List ℕ) (k : ℕ) → Rested (set l (i + i + 1) (c .lo - getD l (i + i) 0)) (i + 1) n (c .hi) l′ k → lent k l′ ≡ edited c n l
+        unfolding Rested
+        edits-left l′ k rested =
+            let f = first takes past lt in
+            let cut : Interval = interval (f .r .lo) (c .lo) in
+            let pre : List Interval = f .pre ++ (cut ∷ []) in
+            let lp : length pre ≡ i + 1 = omega (arith, length-append (f .pre) (cut ∷ []), f .count) in
+            let v : c .lo - getD l (i + i) 0 ≡ c .lo - f .r .lo = omega (arith, f .base) in
+            let numbers : set l (i + i + 1) (c .lo - getD l (i + i) 0) ≡ flat pre ++ (flat (f .more) ++ drop (n + n) l) =
+            set-size l i (f .pre) (f .r) (f .more) (drop (n + n) l) (f .count) (f .numbers) (c .lo - getD l (i + i) 0)
+            ∙ ap (λ (w : ℕ). flat (f .pre) ++ (f .r .lo ∷ w ∷ (flat (f .more) ++ drop (n + n) l))) v
+            ∙ sym (flat-snoc (f .pre) cut (flat (f .more) ++ drop (n + n) l)) in
+            edited-rest takes (set l (i + i + 1) (c .lo - getD l (i + i) 0)) l′ (i + 1) k (c .hi) pre (f .more) (cut-left f) lp (f .fill)
+            (rested pre (f .more) (drop (n + n) l) lp (f .fill) (f .upward) numbers)
+
+      -- it starts before, and ends after it: two areas
       module _ (e : c .hi < getD l (i + i) 0 + getD l (i + i + 1) 0) where
-        -- it starts before, and ends after it: two areas
         two : First c l n i → List Interval
         two f = f .pre ++ (interval (f .r .lo) (c .lo) ∷ interval (c .hi) (f .r .hi) ∷ f .more)
 
-        two-left : (f : First c l n i) → less c (tableIn n l) ≡ two f
+        cut-two : (f : First c l n i) → cutFrom c (tableIn n l) ≡ two f
         unfolding two
-        two-left f =
+        cut-two f =
             f .left ∙ ap (λ (m : List Interval). f .pre ++ m)
-            (cons-split c (edits .solid) (f .r) (f .more) (f .some) (omega (arith, f .base)) (omega (arith, f .base, f .size, f .some))
-            ∙ ap (λ (m : List Interval). interval (f .r .lo) (c .lo) ∷ interval (c .hi) (f .r .hi) ∷ m)
-            (less-after c (edits .solid) (f .more) (suc (f .r .hi)) (omega (arith, f .base, f .size, f .some)) (f .ascend)))
+            (here-two c (f .r) (f .more) (omega (arith, f .base, takes .some)) (omega (arith, f .base)) (omega (arith, f .base, f .size, f .order)))
 
         two-length : (f : First c l n i) → length (two f) ≡ n + 1
         unfolding two
         two-length f =
             omega (arith, length-append (f .pre) (interval (f .r .lo) (c .lo) ∷ interval (c .hi) (f .r .hi) ∷ f .more), f .count, f .fill)
 
-        -- a slot is needed for them
-        pub two-many : length (less c (tableIn n l)) ≡ n + 1
-        two-many = let f = first edits past lt in ap length (two-left f) ∙ two-length f
+        -- no slot for the second
+        pub edits-full : length l / 2 ≤ n → lent n l ≡ edited c n l
+        edits-full full = let f = first takes past lt in edited-full takes (two f) (cut-two f) (omega (arith, two-length f))
 
         pub edits-splits : n < length l / 2 → Splits l i n (c .lo) (c .hi)
-        edits-splits room = record { at = lt; room = omega arith; first = omega arith; order = omega (arith, edits .solid); last = omega arith }
+        edits-splits room = record { at = lt; room = omega arith; first = omega arith; order = omega (arith, takes .some); last = omega arith }
 
-        pub edits-two : n < length l / 2 → (l′ : List ℕ) → Parted l i n (c .lo) (c .hi) l′ → Edited c l n l′ (n + 1)
+        pub edits-two : n < length l / 2 → (l′ : List ℕ) → Parted l i n (c .lo) (c .hi) l′ → lent (n + 1) l′ ≡ edited c n l
         unfolding Parted tableWith two
         edits-two room l′ parted =
-            let f = first edits past lt in
+            let f = first takes past lt in
             let a : drop (n + n) l ≡ getD l (n + n) 0 ∷ drop (suc (n + n)) l = drop-cons l (n + n) 0 (omega arith) in
             let b : drop (suc (n + n)) l ≡ getD l (suc (n + n)) 0 ∷ drop (suc (suc (n + n))) l = drop-cons l (suc (n + n)) 0 (omega arith) in
             let numbers : l ≡ flat (f .pre) ++ (flat (f .r ∷ f .more) ++ (getD l (n + n) 0 ∷ getD l (suc (n + n)) 0 ∷ drop (suc (suc (n + n))) l)) =
@@ -179,38 +171,74 @@ module _ {c : Interval} {l : List ℕ} {n i : ℕ} (edits : Edits c l n) (past :
             let many : length (two f) ≡ n + 1 = two-length f in
             let z : n + n - (length (two f) + length (two f)) ≡ 0 = omega arith in
             let m= : max (n + n) (length (two f) + length (two f)) ≡ suc (suc (n + n)) = omega arith in
-            edited-done c l n (two f) (two-left f) (n + 1) (sym many) l′
-            (parted (f .pre) (f .r) (f .more) (getD l (n + n) 0) (getD l (suc (n + n)) 0) (drop (suc (suc (n + n))) l) (f .count) (f .fill) (f .some) numbers
+            edited-done takes (two f) (cut-two f) (omega arith) (n + 1) (sym many) l′
+            (parted (f .pre) (f .r) (f .more) (getD l (n + n) 0) (getD l (suc (n + n)) 0) (drop (suc (suc (n + n))) l) (f .count) (f .fill) numbers
             ∙ sym (ap₂ (λ (g k : ℕ). flat (two f) ++ (replicate g 0 ++ drop k l)) z m=
             ∙ flat-append (f .pre) (interval (f .r .lo) (c .lo) ∷ interval (c .hi) (f .r .hi) ∷ f .more) (drop (suc (suc (n + n))) l)))
 
 -- ── crowded ──
-module _ {c : Interval} {l : List ℕ} {n : ℕ} (edits : Edits c l n) where
-  crowded-no : length (less c (tableIn n l)) ≤ slotsIn l → false ≡ not (fits (less c (tableIn n l)) l)
-  crowded-no h = rw (le-leb (length (less c (tableIn n l))) (slotsIn l) h)
+pub crowds-not : (c : Interval) (n : ℕ) (l : List ℕ) → takes c n l ≡ false → false ≡ crowds c n l
+unfolding crowds
+crowds-not c n l e = rw e
 
-  crowded-few : length (less c (tableIn n l)) ≤ n → false ≡ not (fits (less c (tableIn n l)) l)
-  crowded-few h = crowded-no (omega (arith, edits .room))
+module _ {c : Interval} {l : List ℕ} {n : ℕ} (takes : Takes c n l) where
+  crowds-is : crowds c n l ≡ not (fits (cutFrom c (tableIn n l)) l)
+  unfolding crowds
+  crowds-is = rw (takes-is c n l takes)
 
-  pub crowded-room : n < length l / 2 → false ≡ not (fits (less c (tableIn n l)) l)
-  crowded-room h =
-      crowded-no (omega (arith, less-short c (edits .solid) (tableIn n l) 0 (edits .ascend), table-length n l (omega (arith, edits .room))))
+  crowded-no : length (cutFrom c (tableIn n l)) ≤ slotsIn l → false ≡ crowds c n l
+  crowded-no h = sym (crowds-is ∙ ap not (le-leb (length (cutFrom c (tableIn n l))) (slotsIn l) h))
+
+  crowded-same : cutFrom c (tableIn n l) ≡ tableIn n l → false ≡ crowds c n l
+  crowded-same e = crowded-no (omega (arith, ap length e, takes .room, table-length n l (omega (arith, takes .room))))
+
+  -- an area that starts in the range, or ends in it, does not become two
+  crowded-rest : (pre more : List Interval) → cutFrom c (tableIn n l) ≡ pre ++ above (c .hi) more → length pre + length more ≡ n → false ≡ crowds c n l
+  crowded-rest pre more e q =
+      crowded-no (omega (arith, takes .room, ap length e, length-append pre (above (c .hi) more), above-length (c .hi) more))
+
+  pub crowded-room : n < length l / 2 → false ≡ crowds c n l
+  crowded-room h = crowded-no (omega (arith, cut-short c (tableIn n l), table-length n l (omega (arith, takes .room))))
 
   module _ {i : ℕ} (past : Past l 0 n (c .lo) i) where
-    pub crowded-before : n ≤ i → false ≡ not (fits (less c (tableIn n l)) l)
-    crowded-before h = crowded-few (omega (arith, edits-before edits past h .count))
+    pub crowded-before : n ≤ i → false ≡ crowds c n l
+    crowded-before h = crowded-same (cut-before takes past h)
 
-    pub crowded-inside : i < n → c .lo ≤ getD l (i + i) 0 → false ≡ not (fits (less c (tableIn n l)) l)
-    crowded-inside lt h = crowded-few (inside-few edits past lt h)
+    module _ (lt : i < n) where
+      pub crowded-inside : c .lo ≤ getD l (i + i) 0 → false ≡ crowds c n l
+      crowded-inside h =
+          let f = first takes past lt in
+          ⊎-elim (λ (b : c .hi ≤ getD l (i + i) 0). crowded-same (cut-after takes past lt b))
+          (λ (b : getD l (i + i) 0 < c .hi). crowded-rest (f .pre) (f .r ∷ f .more) (cut-inside takes past lt b h f) (omega (arith, f .count, f .fill)))
+          (le-or-lt (c .hi) (getD l (i + i) 0))
 
-    -- an area that starts before the interval: it becomes two where it does not end in it
-    pub crowded-ends : length l / 2 ≤ n → i < n → getD l (i + i) 0 < c .lo → (t : Bool) → t ≡ leb (getD l (i + i) 0 + getD l (i + i + 1) 0) (c .hi)
-        → not t ≡ not (fits (less c (tableIn n l)) l)
-    crowded-ends full lt h true e = crowded-few (left-few edits past lt h (leb-true _ _ (sym e)))
-    crowded-ends full lt h false e =
-        rw (lt-leb (length (less c (tableIn n l))) (slotsIn l) (omega (arith, two-many edits past lt h (leb-false _ _ (sym e)))))
+      -- an area that starts before the range: it becomes two where it does not end in it
+      pub crowded-ends : length l / 2 ≤ n → getD l (i + i) 0 < c .lo → (t : Bool) → t ≡ leb (getD l (i + i) 0 + getD l (i + i + 1) 0) (c .hi)
+          → not t ≡ crowds c n l
+      crowded-ends full h true e =
+          let f = first takes past lt in
+          let pre : List Interval = f .pre ++ (interval (f .r .lo) (c .lo) ∷ []) in
+          crowded-rest pre (f .more) (cut-left takes past lt h (leb-true _ _ (sym e)) f)
+          (omega (arith, length-append (f .pre) (interval (f .r .lo) (c .lo) ∷ []), f .count, f .fill))
+      crowded-ends full h false e =
+          let f = first takes past lt in
+          let b = leb-false _ _ (sym e) in
+          let many : length (cutFrom c (tableIn n l)) ≡ n + 1 = ap length (cut-two takes past lt h b f) ∙ two-length takes past lt h b f in
+          sym (crowds-is ∙ ap not (lt-leb (length (cutFrom c (tableIn n l))) (slotsIn l) (omega arith)))
 
--- ── what edit asks, where it comes to two ──
-pub fitting-room : {c : Interval} {l : List ℕ} {n i : ℕ} (f : Fitting c l n) (past : Past l 0 n (c .lo) i) (lt : i < n) (h : getD l (i + i) 0 < c .lo)
-    (e : c .hi < getD l (i + i) 0 + getD l (i + i + 1) 0) → n < length l / 2
-fitting-room f past lt h e = omega (arith, f .enough, two-many (f .asks) past lt h e)
+-- ── A table that can be one ──
+-- of it a range that is not empty leaves "its areas", less the range
+module _ (p n : ℕ) (l : List ℕ) (c : Interval) (good : goodTable p n l ≡ true) (some : c .lo < c .hi) where
+  good-takes : Takes c n l
+  good-takes = record { some = some; room = good-exactly p n l .0 good .room }
+
+  good-cut : cutFrom c (tableIn n l) ≡ less c (tableIn n l)
+  good-cut = cut-less c some (tableIn n l) (good-exactly p n l .0 good .shape .ascend)
+
+  pub good-crowds : crowds c n l ≡ not (fits (less c (tableIn n l)) l)
+  good-crowds = crowds-is good-takes ∙ ap (λ (m : List Interval). not (fits m l)) good-cut
+
+  pub good-edited : fits (less c (tableIn n l)) l ≡ true → edited c n l ≡ lent (length (less c (tableIn n l))) (tableWith (less c (tableIn n l)) n l)
+  good-edited e =
+      let areas = less c (tableIn n l) in
+      sym (edited-done good-takes areas good-cut (leb-true _ _ e) (length areas) refl (tableWith areas n l) refl)

@@ -11,7 +11,8 @@ use borrow.Author.Tests.{le-leb, lt-leb, leb-true, leb-false, eqb-true, eqb-fals
 use Rattle.page.specs.Round.{top, Aligned}
 use Rattle.areas.specs.Interval.{Interval}
 use Rattle.lent_table.specs.Table.{tableIn, goodArea, goodFrom, goodTable}
-use Rattle.lent_table.specs.Steps.{lead, Past}
+use Rattle.lent_table.specs.Edit.{lead}
+use Rattle.lent_table.specs.Steps.{Past}
 use Rattle.lent_table.proofs.TableLaws.{fromSlot, spanAt, slot-more, slot-end, GoodArea, area-says, area-passes}
 
 -- ── ends_by ──

@@ -1,30 +1,30 @@
 -- Areas less one interval: which addresses are left, that the areas still ascend, and what stays as it is. Assumes nothing.
 use mathlib.Core.Path.{_≡_, refl, ap, sym, _∙_}
-use mathlib.Core.List.{List, [], _∷_, _++_, append-assoc, List·Memᴰ, List·Memᴰ·head, List·Memᴰ·tail, List·Memᴰ·not-nil, List·Memᴰ·cases-cons, List·Memᴰ·append-cases, Memᴰ·append-right}
+use mathlib.Core.List.{List, [], _∷_, _++_, List·Memᴰ, List·Memᴰ·head, List·Memᴰ·tail, List·Memᴰ·not-nil, List·Memᴰ·cases-cons, List·Memᴰ·append-cases, Memᴰ·append-right}
 use mathlib.Core.Logic.{_⊎_, inl, inr, ⊎-elim, _↔_}
-use Prim.Native.Nat.{ℕ, suc, _+_, _≤_, _<_}
+use Prim.Native.Nat.{ℕ, suc, _≤_, _<_}
 use native.Mathlib.Omega.{arith}
 use native.Mathlib.Nat.{le-refl}
 use mathlib.Core.Bool.{Bool, true, false, cond}
 use lib.Dec.{leb}
-use lib.ListN.{length, drop}
+use lib.ListN.{drop}
 use borrow.Author.Tests.{leb-true, leb-false}
 use Rattle.areas.specs.Interval.{Interval, interval, Inside, Listed, Above, Ascending}
 use Rattle.areas.specs.declared.Cut.{Cut}
 use Rattle.areas.specs.declared.Cut.the-variants.{Gone, Rest, Split}
 use Rattle.areas.specs.Carve.{cutBy}
 use Rattle.areas.specs.Steps.{Solid}
-use Rattle.areas.proofs.Lists.{Every, le-or-lt, listed-append, listed-left, listed-right}
+use Rattle.areas.proofs.Lists.{le-or-lt, listed-append, listed-left, listed-right}
 use Rattle.areas.proofs.CarveLaws.{CutOf, is-gone, is-before, is-after, is-left, is-right, is-split, cutOf, gone=, before=, after=, left=, right=, split=}
 use Rattle.lent_table.specs.Less.{leftOf, less}
-use Rattle.lent_table.specs.Steps.{lead, front, above}
+use Rattle.lent_table.specs.Edit.{lead, front, above}
 
 pub above-solid : (l : List Interval) (a : ℕ) → Above a l → Solid l
 above-solid [] a h = tt
 above-solid (r ∷ l) a h = (h .1, above-solid l (suc (r .hi)) (h .2))
 
 -- a lower bound may sink
-pub above-lower : (l : List Interval) (a b : ℕ) → b ≤ a → Above a l → Above b l
+above-lower : (l : List Interval) (a b : ℕ) → b ≤ a → Above a l → Above b l
 above-lower [] a b h k = tt
 above-lower (r ∷ l) a b h k = (omega arith, k .1, k .2)
 
@@ -32,14 +32,9 @@ pub less-nil : (c : Interval) → less c [] ≡ []
 unfolding less
 less-nil c = refl
 
-pub less-cons : (c r : Interval) (l : List Interval) → less c (r ∷ l) ≡ leftOf (cutBy c (r .lo) (r .hi)) ++ less c l
+less-cons : (c r : Interval) (l : List Interval) → less c (r ∷ l) ≡ leftOf (cutBy c (r .lo) (r .hi)) ++ less c l
 unfolding less
 less-cons c r l = refl
-
-pub less-append : (c : Interval) (l m : List Interval) → less c (l ++ m) ≡ less c l ++ less c m
-unfolding less
-less-append c [] m = refl
-less-append c (r ∷ l) m = ap (λ (k : List Interval). leftOf (cutBy c (r .lo) (r .hi)) ++ k) (less-append c l m) ∙ sym (append-assoc (leftOf (cutBy c (r .lo) (r .hi))) (less c l) (less c m))
 
 module _ (c : Interval) (solid : c .lo < c .hi) where
   -- ── One area ──
@@ -102,10 +97,10 @@ module _ (c : Interval) (solid : c .lo < c .hi) where
     cons-off (inl o) = cons-is (Rest (r .lo) (r .hi)) (before= c (r .lo) (r .hi) solid some o)
     cons-off (inr o) = cons-is (Rest (r .lo) (r .hi)) (after= c (r .lo) (r .hi) solid some o)
 
-    pub cons-gone : c .lo ≤ r .lo → r .hi ≤ c .hi → less c (r ∷ l) ≡ less c l
+    cons-gone : c .lo ≤ r .lo → r .hi ≤ c .hi → less c (r ∷ l) ≡ less c l
     cons-gone u v = cons-is Gone (gone= c (r .lo) (r .hi) solid some u v)
 
-    pub cons-right : c .lo ≤ r .lo → r .lo < c .hi → c .hi < r .hi → less c (r ∷ l) ≡ interval (c .hi) (r .hi) ∷ less c l
+    cons-right : c .lo ≤ r .lo → r .lo < c .hi → c .hi < r .hi → less c (r ∷ l) ≡ interval (c .hi) (r .hi) ∷ less c l
     cons-right u v w = cons-is (Rest (c .hi) (r .hi)) (right= c (r .lo) (r .hi) solid some u v w)
 
     pub cons-left : r .lo < c .lo → c .lo < r .hi → r .hi ≤ c .hi → less c (r ∷ l) ≡ interval (r .lo) (c .lo) ∷ less c l
@@ -114,29 +109,10 @@ module _ (c : Interval) (solid : c .lo < c .hi) where
     pub cons-split : r .lo < c .lo → c .hi < r .hi → less c (r ∷ l) ≡ interval (r .lo) (c .lo) ∷ interval (c .hi) (r .hi) ∷ less c l
     cons-split u v = cons-is (Split (r .lo) (c .lo) (c .hi) (r .hi)) (split= c (r .lo) (r .hi) solid some u v)
 
-  -- areas that end before it
-  pub less-before : (l : List Interval) → Solid l → Every (λ r. r .hi ≤ c .lo) l → less c l ≡ l
-  less-before [] s h = less-nil c
-  less-before (r ∷ l) s h = cons-off r l (s .0) (inl (h .0)) ∙ ap (λ (k : List Interval). r ∷ k) (less-before l (s .1) (h .1))
-
   -- areas that start after it
   pub less-after : (l : List Interval) (a : ℕ) → c .hi ≤ a → Above a l → less c l ≡ l
   less-after [] a u h = less-nil c
   less-after (r ∷ l) a u h = cons-off r l (h .1) (inr (omega arith)) ∙ ap (λ (k : List Interval). r ∷ k) (less-after l (suc (r .hi)) (omega arith) (h .2))
-
-  -- at most one area more
-  pub less-short : (l : List Interval) (a : ℕ) → Above a l → length (less c l) ≤ suc (length l)
-  less-short [] a h = rw (less-nil c) (omega arith)
-  less-short (r ∷ l) a h =
-      rw (less-cons c r l) (go (cutBy c (r .lo) (r .hi)) (cutOf c (r .lo) (r .hi) solid (h .1)) (less-short l (suc (r .hi)) (h .2)))
-    where
-      go : (k : Cut) → CutOf c (r .lo) (r .hi) k → length (less c l) ≤ suc (length l) → length (leftOf k ++ less c l) ≤ suc (suc (length l))
-      go k (is-gone p q) i = omega arith
-      go k (is-before p) i = omega arith
-      go k (is-after p) i = omega arith
-      go k (is-left p q t) i = omega arith
-      go k (is-right p q t) i = omega arith
-      go k (is-split p q) i = rw (less-after l (suc (r .hi)) (omega arith) (h .2)) (omega arith)
 
   -- areas that start in it or after it: those that end in it are gone, and the next starts where it ends
   pub less-rest : (l : List Interval) (a : ℕ) → c .lo ≤ a → Above a l → less c l ≡ above (c .hi) l

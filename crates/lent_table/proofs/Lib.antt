@@ -4,6 +4,7 @@ pub mod SlotLaws
 pub mod Moving
 pub mod Judging
 pub mod Trimming
+pub mod CutLaws
 pub mod Splitting
 pub mod Finding
 pub mod Editing

@@ -6,11 +6,11 @@ use native.Mathlib.Omega.{arith}
 use lib.ListN.{length, getD, set, drop}
 use lib.Seq.{drop-at}
 use Rattle.areas.specs.Interval.{Interval}
-use Rattle.areas.specs.Steps.{Solid}
 use Rattle.areas.specs.Table.{flat}
 use Rattle.areas.proofs.Writing.{get-past, set-past, get-here, set-here, flat-length}
 use Rattle.lent_table.specs.Table.{tableIn}
-use Rattle.lent_table.proofs.TableLaws.{fromSlot, flat-table}
+use Rattle.lent_table.specs.Steps.{Upward}
+use Rattle.lent_table.proofs.TableLaws.{fromSlot, flat-reads}
 
 -- ── As two numbers ──
 module _ (l : List ℕ) (k : ℕ) (a : List ℕ) (u v : ℕ) (b : List ℕ) (la : length a ≡ k + k) (e : l ≡ a ++ (u ∷ v ∷ b)) where
@@ -33,11 +33,11 @@ double pre j e = omega (arith, flat-length pre)
 
 -- the areas from slot i on
 module _ (l : List ℕ) (i n : ℕ) (pre xs : List Interval) (post : List ℕ) (lp : length pre ≡ i) (ln : i + length xs ≡ n) (e : l ≡ flat pre ++ (flat xs ++ post)) where
-  pub here : Solid xs → fromSlot l n i ≡ xs
-  here s =
+  pub here : Upward xs → fromSlot l n i ≡ xs
+  here u =
       let c : n - i ≡ length xs = omega arith in
       ap₂ (λ (k : ℕ) (m : List ℕ). tableIn k m) c (ap (λ (m : List ℕ). drop (i + i) m) e ∙ drop-at (flat pre) (flat xs ++ post) (i + i) (double pre i lp))
-      ∙ flat-table xs post s
+      ∙ flat-reads xs post u
 
 -- the base and the size in slot i, and stores to both
 module _ (l : List ℕ) (i : ℕ) (pre : List Interval) (r : Interval) (more : List Interval) (post : List ℕ) (lp : length pre ≡ i) (e : l ≡ flat pre ++ (flat (r ∷ more) ++ post)) where

@@ -12,7 +12,7 @@ use Rattle.lent_table.proofs.SlotLaws.{double, base-is, size-is, set-si
 pub parted : (l l′ : List ℕ) (i n lo hi : ℕ) → getD l (i + i) 0 ≤ hi
     → Inserted (set l (i + i + 1) (lo - getD l (i + i) 0)) (i + 1) n hi (getD l (i + i + 1) 0 - (hi - getD l (i + i) 0)) l′ → Parted l i n lo hi l′
 unfolding Parted Inserted flat
-parted l l′ i n lo hi h inserted pre r more y z post lp ln some e =
+parted l l′ i n lo hi h inserted pre r more y z post lp ln e =
     let b : getD l (i + i) 0 ≡ r .lo = base-is l i pre r more (y ∷ z ∷ post) lp e in
     let w : getD l (i + i + 1) 0 ≡ r .hi - r .lo = size-is l i pre r more (y ∷ z ∷ post) lp e in
     let u = lo - getD l (i + i) 0 in

@@ -14,7 +14,7 @@ use Rattle.areas.specs.Shape.{WholePages}
 use Rattle.areas.specs.Steps.{Solid}
 use Rattle.areas.specs.Table.{flat, slotsIn}
 use Rattle.lent_table.specs.Table.{tableIn, GoodTable, goodArea, goodFrom, goodTable}
-use Rattle.lent_table.specs.Steps.{Edits}
+use Rattle.lent_table.specs.Steps.{Upward}
 
 pub table-none : (l : List ℕ) → tableIn 0 l ≡ []
 unfolding tableIn
@@ -42,13 +42,33 @@ table-flat (suc n) (a ∷ b ∷ l) h =
     let t : suc n + suc n ≡ suc (suc (n + n)) = omega arith in
     ap₂ (λ (i : ℕ) (m : List ℕ). a ∷ i ∷ m) s (table-flat n l (omega arith)) ∙ rw t
 
+-- what is read from numbers does not end before it starts
+pub table-upward : (n : ℕ) (l : List ℕ) → Upward (tableIn n l)
+unfolding tableIn
+table-upward zero l = tt
+table-upward (suc n) [] = tt
+table-upward (suc n) (a ∷ []) = tt
+table-upward (suc n) (a ∷ b ∷ l) = (omega arith, table-upward n l)
+
+pub upward-drop : (k : ℕ) (l : List Interval) → Upward l → Upward (drop k l)
+upward-drop zero l u = u
+upward-drop (suc k) [] u = u
+upward-drop (suc k) (r ∷ l) u = upward-drop k l (u .1)
+
 -- what is written reads so
-pub flat-table : (xs : List Interval) (post : List ℕ) → Solid xs → tableIn (length xs) (flat xs ++ post) ≡ xs
+pub flat-reads : (xs : List Interval) (post : List ℕ) → Upward xs → tableIn (length xs) (flat xs ++ post) ≡ xs
 unfolding tableIn flat
-flat-table [] post s = refl
-flat-table (r ∷ xs) post s =
-    let e : r .lo + (r .hi - r .lo) ≡ r .hi = omega (arith, s .0) in
-    ap₂ (λ (i : ℕ) (m : List Interval). interval (r .lo) i ∷ m) e (flat-table xs post (s .1))
+flat-reads [] post u = refl
+flat-reads (r ∷ xs) post u =
+    let e : r .lo + (r .hi - r .lo) ≡ r .hi = omega (arith, u .0) in
+    ap₂ (λ (i : ℕ) (m : List Interval). interval (r .lo) i ∷ m) e (flat-reads xs post (u .1))
+
+pub flat-table : (xs : List Interval) (post : List ℕ) → Solid xs → tableIn (length xs) (flat xs ++ post) ≡ xs
+flat-table xs post s = flat-reads xs post (upward xs s)
+  where
+    upward : (l : List Interval) → Solid l → Upward l
+    upward [] s = tt
+    upward (r ∷ l) s = (omega (arith, s .0), upward l (s .1))
 
 pub flat-append : (a b : List Interval) (c : List ℕ) → flat (a ++ b) ++ c ≡ flat a ++ (flat b ++ c)
 unfolding flat
@@ -146,7 +166,3 @@ good-exactly p n l = (
       record { room = leb-true _ _ (and-left (leb n (slotsIn l)) _ e); shape = record { ascend = f .0; pages = f .1 } },
   λ g. and-both _ _ (le-leb _ _ (g .room)) (from-passes p 0 (tableIn n l) (g .shape .ascend) (g .shape .pages)),
 )
-
--- and can be edited
-pub good-edits : (p n : ℕ) (l : List ℕ) (c : Interval) → goodTable p n l ≡ true → c .lo < c .hi → Edits c l n
-good-edits p n l c good some = let g : GoodTable p n l = good-exactly p n l .0 good in record { solid = some; room = g .room; ascend = g .shape .ascend }

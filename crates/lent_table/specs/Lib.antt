@@ -1,3 +1,4 @@
 pub mod Table
 pub mod Less
+pub mod Edit
 pub mod Steps

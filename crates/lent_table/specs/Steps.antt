@@ -1,20 +1,13 @@
--- The contracts of the steps inside an edit. No caller sees them: what an edit promises is Edited, at the end.
+-- The contracts of the steps inside an edit. No caller sees them: what an edit promises is Edit.edited.
 use mathlib.Core.Path.{_≡_}
-use mathlib.Core.List.{List, [], _∷_, _++_}
-use mathlib.Core.Bool.{cond}
-use Prim.Native.Nat.{ℕ, suc, _+_, _-_, _≤_, _<_}
-use lib.Dec.{leb}
+use mathlib.Core.List.{List, _∷_, _++_}
+use Prim.Native.Nat.{ℕ, _+_, _-_, _≤_, _<_}
 use lib.ListN.{length, getD, drop, replicate}
-use Rattle.areas.specs.Interval.{Interval, interval, Ascending}
-use Rattle.areas.specs.Steps.{Solid}
-use Rattle.areas.specs.Table.{flat, slotsIn}
-use Rattle.lent_table.specs.Table.{tableIn, tableWith}
-use Rattle.lent_table.specs.Less.{less}
-
--- how many areas at the front end at x or below
-unfoldable pub lead : ℕ → List Interval → ℕ
-lead x [] = 0
-lead x (r ∷ l) = cond (leb (r .hi) x) (suc (lead x l)) 0
+use Rattle.areas.specs.Interval.{Interval, interval}
+use Rattle.areas.specs.Steps.{All}
+use Rattle.areas.specs.Table.{flat}
+use Rattle.lent_table.specs.Table.{tableIn}
+use Rattle.lent_table.specs.Edit.{lead, front, above}
 
 -- past: the areas from slot `from` on, up to slot n
 pub record Past (l : List ℕ) (from n x k : ℕ) : Type 0 where
@@ -38,29 +31,26 @@ unfoldable pub Slid : List ℕ → ℕ → ℕ → ℕ → List ℕ → Type 0
 Slid l to from end l′ = (a c d : List ℕ) (g : ℕ) → length a ≡ to → to + g ≡ from → from + length c ≡ end
     → l ≡ a ++ (replicate g 0 ++ (c ++ d)) → l′ ≡ a ++ (c ++ (replicate g 0 ++ d))
 
--- the first area, which ends past hi, from hi on
-unfoldable pub front : ℕ → List Interval → List Interval
-front hi [] = []
-front hi (r ∷ l) = cond (leb hi (r .lo)) (r ∷ l) (interval hi (r .hi) ∷ l)
-
+-- trim_front: the first area, which ends past hi
 pub record Trims (l : List ℕ) (j n hi : ℕ) : Type 0 where
   pub room : n + n ≤ length l
   pub ends : j < n → hi < getD l (j + j) 0 + getD l (j + j + 1) 0
 
 unfoldable pub Trimmed : List ℕ → ℕ → ℕ → ℕ → List ℕ → Type 0
-Trimmed l j n hi l′ = (pre xs : List Interval) (post : List ℕ) → length pre ≡ j → j + length xs ≡ n → Solid xs
+Trimmed l j n hi l′ = (pre xs : List Interval) (post : List ℕ) → length pre ≡ j → j + length xs ≡ n
     → l ≡ flat pre ++ (flat xs ++ post) → l′ ≡ flat pre ++ (flat (front hi xs) ++ post)
 
--- the areas xs from slot i on without what lies below hi: they move down to slot i, and leave zeros
-unfoldable pub above : ℕ → List Interval → List Interval
-above hi xs = front hi (drop (lead hi xs) xs)
+-- no area ends before it starts, as none does that is read from numbers
+abbrev pub Upward : List Interval → Type 0
+Upward l = All (λ r. r .lo ≤ r .hi) l
 
+-- cut_rest: the areas xs from slot i on without what lies below hi: they move down to slot i, and leave zeros
 pub record Rest (l : List ℕ) (i n hi : ℕ) (l′ : List ℕ) (n′ : ℕ) (pre xs : List Interval) (post : List ℕ) : Type 0 where
   pub count : n′ ≡ i + length (above hi xs)
   pub slots : l′ ≡ flat pre ++ (flat (above hi xs) ++ (replicate (lead hi xs + lead hi xs) 0 ++ post))
 
 unfoldable pub Rested : List ℕ → ℕ → ℕ → ℕ → List ℕ → ℕ → Type 0
-Rested l i n hi l′ n′ = (pre xs : List Interval) (post : List ℕ) → length pre ≡ i → i + length xs ≡ n → Solid xs
+Rested l i n hi l′ n′ = (pre xs : List Interval) (post : List ℕ) → length pre ≡ i → i + length xs ≡ n → Upward xs
     → l ≡ flat pre ++ (flat xs ++ post) → Rest l i n hi l′ n′ pre xs post
 
 -- split_at: the area in slot i, which reaches past hi, in two; what stands after it moves one slot on
@@ -73,19 +63,5 @@ pub record Splits (l : List ℕ) (i n lo hi : ℕ) : Type 0 where
 
 unfoldable pub Parted : List ℕ → ℕ → ℕ → ℕ → ℕ → List ℕ → Type 0
 Parted l i n lo hi l′ = (pre : List Interval) (r : Interval) (more : List Interval) (y z : ℕ) (post : List ℕ) → length pre ≡ i → i + 1 + length more ≡ n
-    → r .lo < r .hi → l ≡ flat pre ++ (flat (r ∷ more) ++ (y ∷ z ∷ post))
+    → l ≡ flat pre ++ (flat (r ∷ more) ++ (y ∷ z ∷ post))
     → l′ ≡ flat pre ++ (flat (interval (r .lo) lo ∷ interval hi (r .hi) ∷ more) ++ post)
-
--- edit: what it asks, and what it leaves
-pub record Edits (c : Interval) (l : List ℕ) (n : ℕ) : Type 0 where
-  pub solid : c .lo < c .hi
-  pub room : n ≤ slotsIn l
-  pub ascend : Ascending (tableIn n l)
-
-pub record Fitting (c : Interval) (l : List ℕ) (n : ℕ) : Type 0 where
-  pub asks : Edits c l n
-  pub enough : length (less c (tableIn n l)) ≤ slotsIn l
-
-pub record Edited (c : Interval) (l : List ℕ) (n : ℕ) (l′ : List ℕ) (n′ : ℕ) : Type 0 where
-  pub count : n′ ≡ length (less c (tableIn n l))
-  pub table : l′ ≡ tableWith (less c (tableIn n l)) n l

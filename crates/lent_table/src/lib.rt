@@ -4,15 +4,13 @@
 // Slot k is the numbers at places k + k and k + k + 1, an area's base and its size, and the first n slots are in use. A range goes from lo up
 // to hi, and hi is not in it. No base and size are added before it is known that the sum fits.
 ghost use mathlib.Core.Path.{_≡_};
-ghost use mathlib.Core.Bool.{not};
 ghost use Prim.Native.Nat.{_+_, _≤_, _<_};
 ghost use lib.Dec.{leb};
 ghost use lib.ListN.{length};
 ghost use Rattle.areas.specs.Interval.{interval};
-ghost use Rattle.areas.specs.Table.{fits};
-ghost use Rattle.lent_table.specs.Table.{tableIn, goodArea, goodTable};
-ghost use Rattle.lent_table.specs.Less.{less};
-ghost use Rattle.lent_table.specs.Steps.{Past, Inserted, Cleared, Slid, Trims, Trimmed, Rested, Splits, Parted, Edits, Fitting, Edited};
+ghost use Rattle.lent_table.specs.Table.{goodArea, goodTable};
+ghost use Rattle.lent_table.specs.Edit.{crowds, lent, edited};
+ghost use Rattle.lent_table.specs.Steps.{Past, Inserted, Cleared, Slid, Trims, Trimmed, Rested, Splits, Parted};
 
 // T, the start of the last page: no area ends past it.
 const TOP: u64 = 0xffff_ffff_ffff_f000;
@@ -181,12 +179,18 @@ fn split_at(slots: &mut [u64], i: usize, n: usize, lo: u64, hi: u64)
     insert_area(slots, i + 1, n, hi, size - (hi - base));
 }
 
-// The first n areas less what lies from lo up to hi, where they stand, and how many they are then. There is a slot for each. Slot i is the
-// first whose area ends past lo: all before it stay as they are, and the rest depends on where this one lies.
+// The first n areas less what lies from lo up to hi, where they stand, and how many they are then. Slot i is the first whose area ends past
+// lo: all before it stay as they are, and the rest depends on where this one lies. Nothing changes where the range is empty, the slots are
+// not there, or there is none for each area that is left.
 pub fn edit(slots: &mut [u64], n: usize, lo: u64, hi: u64) -> usize
-    requires { ⌜ Fitting (interval lo hi) (now slots) n ⌝ }
-    ensures { λ r. ⌜ Edited (interval lo hi) (now (slots .entry)) n (now (slots .exit)) r ⌝ }
+    ensures { λ r. ⌜ lent r (now (slots .exit)) ≡ edited (interval lo hi) n (now (slots .entry)) ⌝ }
 {
+    if hi <= lo {
+        return n;
+    }
+    if n > slots.len() / 2 {
+        return n;
+    }
     let i = past(slots, 0, n, lo);
     if n <= i {
         return n;
@@ -203,6 +207,9 @@ pub fn edit(slots: &mut [u64], n: usize, lo: u64, hi: u64) -> usize
         slots[i + i + 1] = lo - base;
         return cut_rest(slots, i + 1, n, hi);
     }
+    if slots.len() / 2 <= n {
+        return n;
+    }
     split_at(slots, i, n, lo, hi);
     n + 1
 }
@@ -210,9 +217,14 @@ pub fn edit(slots: &mut [u64], n: usize, lo: u64, hi: u64) -> usize
 // Whether there is no slot for each area that is left when what lies from lo up to hi is taken away. That needs a slot more only where it
 // makes two areas of one, the first that ends past lo.
 pub fn crowded(slots: &[u64], n: usize, lo: u64, hi: u64) -> bool
-    requires { ⌜ Edits (interval lo hi) (now slots) n ⌝ }
-    ensures { λ r. ⌜ r ≡ not (fits (less (interval lo hi) (tableIn n (now (slots .entry)))) (now (slots .entry))) ⌝ }
+    ensures { λ r. ⌜ r ≡ crowds (interval lo hi) n (now (slots .entry)) ⌝ }
 {
+    if hi <= lo {
+        return false;
+    }
+    if n > slots.len() / 2 {
+        return false;
+    }
     if n < slots.len() / 2 {
         return false;
     }

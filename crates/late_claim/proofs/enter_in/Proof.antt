@@ -1,7 +1,7 @@
 -- `late_claim::enter_in` meets its contract: one law for each return (Entering). Assumes nothing.
 use mathlib.Core.Path.{sym, _∙_}
 use Rattle.memory.proofs.Refusing.{refused}
-use Rattle.late_claim.proofs.Entering.{enter-sizeless, enter-pageless, judged-edits, enter-crowded, enter-fitting, enter-full, enter-done}
+use Rattle.late_claim.proofs.Entering.{enter-sizeless, enter-pageless, enter-crowded, enter-full, enter-done}
 use borrow.Author.Needs.{needs}
 use Rattle.late_claim.proofs.enter_in.Statement.{statement}
 use Rattle.late_claim.proofs.enter_in.Tie as tie
@@ -16,7 +16,7 @@ returns-2 : tie.Need-returns-2
 returns-2 c = enter-pageless 4096 _ _ _ _ (c .before .before .before .before .pre .checked) (c .before .before .if1 .left) (c .before .round .ensures) (c .if2 .taken)
 
 crowded-requires : tie.Need-crowded-requires
-crowded-requires c κs = judged-edits 4096 _ _ _ (c .before .before .before .before .before .pre .checked) _ (c .before .if2 .left)
+crowded-requires c κs = search needs
 
 register-in-requires : tie.Need-register-in-requires
 register-in-requires c κs = search needs
@@ -43,7 +43,7 @@ returns-4 : tie.Need-returns-4
 returns-4 c = enter-full 4096 _ _ _ _ (c .before .before .before .before .before .before .before .before .before .before .before .before .pre .checked) (c .before .before .before .before .before .before .before .before .before .before .if1 .left) (c .before .before .before .before .before .before .before .before .before .round .ensures) (c .before .before .before .before .before .before .before .before .if2 .left) (sym (c .before .before .before .before .before .before .crowded .ensures) ∙ (c .before .before .before .before .before .if3 .left)) (c .before .register-in2 .ensures) (refused (c .before .register-in2 .result .answer) (c .match .keys2))
 
 edit-requires : tie.Need-edit-requires
-edit-requires c κs = enter-fitting 4096 _ _ _ _ (c .before .before .before .before .before .before .before .before .before .before .before .before .before .before .pre .checked) (c .before .before .before .before .before .before .before .before .before .before .before .before .if1 .left) (c .before .before .before .before .before .before .before .before .before .before .before .round .ensures) (c .before .before .before .before .before .before .before .before .before .before .if2 .left) (sym (c .before .before .before .before .before .before .before .before .crowded .ensures) ∙ (c .before .before .before .before .before .before .before .if3 .left)) (c .before .before .before .register-in2 .ensures)
+edit-requires c κs = search needs
 
 same-length-3 : tie.Need-same-length-3
 same-length-3 c = search needs

@@ -3,10 +3,17 @@ use mathlib.Core.Path.{sym, _∙_}
 use native.Mathlib.Omega.{arith}
 use lib.ListN.{length-set}
 use borrow.Author.Tests.{leb-true, leb-false}
-use Rattle.lent_table.proofs.Editing.{edits-before, edits-after, edits-inside, edits-left, edits-splits, edits-two, fitting-room}
+use Rattle.lent_table.proofs.Finding.{takes-nothing, takes-none}
+use Rattle.lent_table.proofs.Editing.{edited-not, edits-before, edits-after, edits-inside, edits-left, edits-full, edits-splits, edits-two}
 use borrow.Author.Needs.{needs}
 use Rattle.lent_table.proofs.edit.Statement.{statement}
 use Rattle.lent_table.proofs.edit.Tie as tie
+
+returns : tie.Need-returns
+returns c = edited-not _ _ _ (takes-nothing _ _ _ (c .if1 .taken))
+
+returns-2 : tie.Need-returns-2
+returns-2 c = edited-not _ _ _ (takes-none _ _ _ (c .if2 .taken))
 
 past-requires : tie.Need-past-requires
 past-requires c κs = search needs
@@ -14,8 +21,8 @@ past-requires c κs = search needs
 same-length : tie.Need-same-length
 same-length c = search needs
 
-returns : tie.Need-returns
-returns c = edits-before (c .before .before .before .before .pre .asks) (c .before .past .ensures) (c .if1 .taken)
+returns-3 : tie.Need-returns-3
+returns-3 c = edits-before (record { some = c .before .before .before .before .if1 .left; room = c .before .before .before .if2 .left }) (c .before .past .ensures) (c .if3 .taken)
 
 add-base : tie.Need-add-base
 add-base c = search needs
@@ -29,8 +36,8 @@ slice-read-base c = search needs
 same-length-2 : tie.Need-same-length-2
 same-length-2 c = search needs
 
-returns-2 : tie.Need-returns-2
-returns-2 c = edits-after (c .before .before .before .before .before .before .pre .asks) (c .before .before .before .past .ensures) (c .if2 .taken)
+returns-4 : tie.Need-returns-4
+returns-4 c = edits-after (record { some = c .before .before .before .before .before .before .if1 .left; room = c .before .before .before .before .before .if2 .left }) (c .before .before .before .past .ensures) (c .before .before .if3 .left) (c .if4 .taken)
 
 cut-rest-requires : tie.Need-cut-rest-requires
 cut-rest-requires c κs = search needs
@@ -38,8 +45,8 @@ cut-rest-requires c κs = search needs
 same-length-3 : tie.Need-same-length-3
 same-length-3 c = search needs
 
-returns-3 : tie.Need-returns-3
-returns-3 c = edits-inside (c .before .before .before .before .before .before .before .before .before .before .before .pre .asks) (c .before .before .before .before .before .before .before .before .past .ensures) (c .before .before .before .before .before .before .before .if1 .left) (c .before .before .before .before .if3 .taken) _ _ (c .before .before .cut-rest .ensures)
+returns-5 : tie.Need-returns-5
+returns-5 c = edits-inside (record { some = c .before .before .before .before .before .before .before .before .before .before .before .if1 .left; room = c .before .before .before .before .before .before .before .before .before .before .if2 .left }) (c .before .before .before .before .before .before .before .before .past .ensures) (c .before .before .before .before .before .before .before .if3 .left) (c .before .before .before .before .before .if4 .left) (c .before .before .before .before .if5 .taken) _ _ (c .before .before .cut-rest .ensures)
 
 add-size : tie.Need-add-size
 add-size c = search needs
@@ -80,36 +87,44 @@ cut-rest-requires-2 c κs = (omega arith, simp length-set (omega arith))
 same-length-4 : tie.Need-same-length-4
 same-length-4 c = omega (arith, simp length-set at (c .before .before .cut-rest2 .kept .0))
 
-returns-4 : tie.Need-returns-4
-returns-4 c = edits-left (c .before .before .before .before .before .before .before .before .before .before .before .before .before .before .pre .asks) (c .before .before .before .before .before .before .before .before .before .before .before .past .ensures) (c .before .before .before .before .before .before .before .before .before .before .if1 .left) (c .before .before .before .before .before .before .before .if3 .left) (leb-true _ _ (sym (c .before .before .before .before .before .ends-by .ensures) ∙ c .before .before .before .before .if4 .taken)) _ _ (c .before .before .cut-rest2 .ensures)
-
-split-at-requires : tie.Need-split-at-requires
-split-at-requires c κs = let lt = c .before .before .before .before .before .before .before .if1 .left in let h = c .before .before .before .before .if3 .left in let e = leb-false _ _ (sym (c .before .before .ends-by .ensures) ∙ c .before .if4 .left) in edits-splits (c .before .before .before .before .before .before .before .before .before .before .before .pre .asks) (c .before .before .before .before .before .before .before .before .past .ensures) lt h e (fitting-room (c .before .before .before .before .before .before .before .before .before .before .before .pre) (c .before .before .before .before .before .before .before .before .past .ensures) lt h e)
-
-add-result : tie.Need-add-result
-add-result c = search needs
+returns-6 : tie.Need-returns-6
+returns-6 c = edits-left (record { some = c .before .before .before .before .before .before .before .before .before .before .before .before .before .before .if1 .left; room = c .before .before .before .before .before .before .before .before .before .before .before .before .before .if2 .left }) (c .before .before .before .before .before .before .before .before .before .before .before .past .ensures) (c .before .before .before .before .before .before .before .before .before .before .if3 .left) (c .before .before .before .before .before .before .before .if5 .left) (leb-true _ _ (sym (c .before .before .before .before .before .ends-by .ensures) ∙ (c .before .before .before .before .if6 .taken))) _ _ (c .before .before .cut-rest2 .ensures)
 
 same-length-5 : tie.Need-same-length-5
 same-length-5 c = search needs
 
-returns-5 : tie.Need-returns-5
-returns-5 c = let lt = c .before .before .before .before .before .before .before .before .before .before .if1 .left in let h = c .before .before .before .before .before .before .before .if3 .left in let e = leb-false _ _ (sym (c .before .before .before .before .before .ends-by .ensures) ∙ c .before .before .before .before .if4 .left) in edits-two (c .before .before .before .before .before .before .before .before .before .before .before .before .before .before .pre .asks) (c .before .before .before .before .before .before .before .before .before .before .before .past .ensures) lt h e (fitting-room (c .before .before .before .before .before .before .before .before .before .before .before .before .before .before .pre) (c .before .before .before .before .before .before .before .before .before .before .before .past .ensures) lt h e) _ (c .before .before .split-at .ensures)
+returns-7 : tie.Need-returns-7
+returns-7 c = edits-full (record { some = c .before .before .before .before .before .before .before .before .before .before .before .if1 .left; room = c .before .before .before .before .before .before .before .before .before .before .if2 .left }) (c .before .before .before .before .before .before .before .before .past .ensures) (c .before .before .before .before .before .before .before .if3 .left) (c .before .before .before .before .if5 .left) (leb-false _ _ (sym (c .before .before .ends-by .ensures) ∙ (c .before .if6 .left))) (c .if7 .taken)
+
+split-at-requires : tie.Need-split-at-requires
+split-at-requires c κs = edits-splits (record { some = c .before .before .before .before .before .before .before .before .before .before .before .before .if1 .left; room = c .before .before .before .before .before .before .before .before .before .before .before .if2 .left }) (c .before .before .before .before .before .before .before .before .before .past .ensures) (c .before .before .before .before .before .before .before .before .if3 .left) (c .before .before .before .before .before .if5 .left) (leb-false _ _ (sym (c .before .before .before .ends-by .ensures) ∙ (c .before .before .if6 .left))) (c .before .if7 .left)
+
+add-result : tie.Need-add-result
+add-result c = search needs
+
+same-length-6 : tie.Need-same-length-6
+same-length-6 c = search needs
+
+returns-8 : tie.Need-returns-8
+returns-8 c = edits-two (record { some = c .before .before .before .before .before .before .before .before .before .before .before .before .before .before .before .if1 .left; room = c .before .before .before .before .before .before .before .before .before .before .before .before .before .before .if2 .left }) (c .before .before .before .before .before .before .before .before .before .before .before .before .past .ensures) (c .before .before .before .before .before .before .before .before .before .before .before .if3 .left) (c .before .before .before .before .before .before .before .before .if5 .left) (leb-false _ _ (sym (c .before .before .before .before .before .before .ends-by .ensures) ∙ (c .before .before .before .before .before .if6 .left))) (c .before .before .before .before .if7 .left) _ (c .before .before .split-at .ensures)
 
 pub edit-spec : {M : Type 1} → statement M
 edit-spec =
     tie.close
     (tie.spec
+    returns
+    returns-2
     past-requires
     same-length
-    returns
+    returns-3
     add-base
     mul-base
     slice-read-base
     same-length-2
-    returns-2
+    returns-4
     cut-rest-requires
     same-length-3
-    returns-3
+    returns-5
     add-size
     add-size-2
     mul-size
@@ -123,8 +138,10 @@ edit-spec =
     add-cut-rest
     cut-rest-requires-2
     same-length-4
-    returns-4
+    returns-6
+    same-length-5
+    returns-7
     split-at-requires
     add-result
-    same-length-5
-    returns-5)
+    same-length-6
+    returns-8)
