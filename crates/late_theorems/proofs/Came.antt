@@ -20,7 +20,7 @@ use Rattle.areas.specs.Interval.{Interval}
 use Rattle.areas.specs.Areas.{areasOf}
 use Rattle.areas.specs.Table.{builtNumber, flat, slotsIn, Builds}
 use Rattle.areas.proofs.Writing.{flat-length}
-use Rattle.areas.proofs.MadeLaws.{areasOf-ascends, areasOf-shape}
+use Rattle.areas.proofs.MadeLaws.{areasOf-few, areasOf-ascends, areasOf-shape}
 use Rattle.demand3.proofs.Refusal.{build-answers}
 use Rattle.lent_table.specs.Table.{tableIn}
 use Rattle.lent_table.proofs.LessLaws.{above-solid}
@@ -130,6 +130,13 @@ module _ {p : ℕ} {low high : Limit} {m : MemoryMap} {n : ℕ} {l : List ℕ} (
         λ h. let d = many-afresh .0 h in three .1 (omega (arith, d .2)),
         λ h. let d = three .0 h in many-afresh .1 (kind, z, omega arith),
       )
+
+  -- 512 slots are always enough, since there are never more areas than entries
+  pub enough-slots : 512 ≤ slotsIn l → lateGives p m c n l ≡ 3 → ⊥
+  enough-slots h e =
+      let more = many-afresh .0 e .2 in
+      let made = registered-made p m c g (is .made) in
+      omega (arith, more, areasOf-few made low high, made .room)
 
 -- THEOREM, a table that came from its map and limits holds the map's areas
 pub came-is : {p : ℕ} {low high : Limit} {m : MemoryMap} {n : ℕ} {l : List ℕ} → Page p → Came p low high m n l → Is p low high m n l
