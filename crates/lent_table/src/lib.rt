@@ -215,7 +215,7 @@ pub fn edit(slots: &mut [u64], n: usize, lo: u64, hi: u64) -> usize
 }
 
 // Whether there is no slot for each area that is left when what lies from lo up to hi is taken away. That needs a slot more only where it
-// makes two areas of one, the first that ends past lo.
+// makes two areas of one, the first that ends past lo. An empty range takes nothing away, and nothing is taken from slots that are not there.
 pub fn crowded(slots: &[u64], n: usize, lo: u64, hi: u64) -> bool
     ensures { λ r. ⌜ r ≡ crowds (interval lo hi) n (now (slots .entry)) ⌝ }
 {
