@@ -9,50 +9,50 @@ use lib.ListN.{length}
 use Rattle.entry.specs.declared.MemoryEntry.{MemoryEntry}
 use Rattle.entry.specs.Entry.{Has}
 use Rattle.memory.specs.Map.{Slots, at}
-use Rattle.listing.specs.Listing.{entriesFrom, those}
-use Rattle.listing.proofs.ListingLaws.{those-ways}
+use Rattle.listing.specs.Listing.{entries_from, those}
+use Rattle.listing.proofs.ListingLaws.{those_ways}
 use Rattle.areas.specs.Interval.{Inside, Listed}
 use Rattle.areas.specs.Areas.{span}
-use Rattle.areas.proofs.Lists.{Every, every_map, le-or-lt}
+use Rattle.areas.proofs.Lists.{Every, every_map, le_or_lt}
 use Rattle.areas.proofs.SortLaws.{Off, Apart}
 
 module _ (t : MemoryEntry → Bool) (e : MemoryEntry) (es : List MemoryEntry) where
-  pub those-takes : t e ≡ true → those t (e ∷ es) ≡ e ∷ those t es
+  pub those_takes : t e ≡ true → those t (e ∷ es) ≡ e ∷ those t es
   unfolding those
-  those-takes h = rw h
+  those_takes h = rw h
 
-  pub those-skips : t e ≡ false → those t (e ∷ es) ≡ those t es
+  pub those_skips : t e ≡ false → those t (e ∷ es) ≡ those t es
   unfolding those
-  those-skips h = rw h
+  those_skips h = rw h
 
-pub entries-length : (l : Slots) (n i : ℕ) → length (entriesFrom l n i) ≡ n
-unfolding entriesFrom
-entries-length l zero i = refl
-entries-length l (suc n) i = ap suc (entries-length l n (i + 1))
+pub entries_length : (l : Slots) (n i : ℕ) → length (entries_from l n i) ≡ n
+unfolding entries_from
+entries_length l zero i = refl
+entries_length l (suc n) i = ap suc (entries_length l n (i + 1))
 
 module _ (t : MemoryEntry → Bool) (l : Slots) where
   -- what every slot has whose entry passes
-  pub every-those : (P : MemoryEntry → Type 0) (n i : ℕ) → ((j : ℕ) → i ≤ j → j < i + n → t (at l j) ≡ true → P (at l j))
-      → Every P (those t (entriesFrom l n i))
-  unfolding those entriesFrom
-  every-those P zero i f = tt
-  every-those P (suc n) i f =
-      let more : Every P (those t (entriesFrom l n (i + 1))) = every-those P n (i + 1) (λ j a b h. f j (omega arith) (omega arith) h) in
-      those-ways t (at l i) (entriesFrom l n (i + 1)) (Every P) (λ h. (f i (omega arith) (omega arith) h, more)) (λ h. more)
+  pub every_those : (P : MemoryEntry → Type 0) (n i : ℕ) → ((j : ℕ) → i ≤ j → j < i + n → t (at l j) ≡ true → P (at l j))
+      → Every P (those t (entries_from l n i))
+  unfolding those entries_from
+  every_those P zero i f = tt
+  every_those P (suc n) i f =
+      let more : Every P (those t (entries_from l n (i + 1))) = every_those P n (i + 1) (λ j a b h. f j (omega arith) (omega arith) h) in
+      those_ways t (at l i) (entries_from l n (i + 1)) (Every P) (λ h. (f i (omega arith) (omega arith) h, more)) (λ h. more)
 
   -- no two that pass touch
-  pub those-apart : (n i : ℕ) → ((j : ℕ) → j < i + n → (at l j).start < (at l j).end)
+  pub those_apart : (n i : ℕ) → ((j : ℕ) → j < i + n → (at l j).start < (at l j).end)
       → ((a b : ℕ) → a < i + n → b < i + n → (a ≡ b → ⊥) → t (at l a) ≡ true → t (at l b) ≡ true → Off (span (at l a)) (span (at l b)))
-      → Apart (map span (those t (entriesFrom l n i)))
-  unfolding those entriesFrom
-  those-apart zero i some off = tt
-  those-apart (suc n) i some off =
-      let more : Apart (map span (those t (entriesFrom l n (i + 1)))) =
-      those-apart n (i + 1) (λ j h. some j (omega arith)) (λ a b p q ne s u. off a b (omega arith) (omega arith) ne s u) in
-      those-ways t (at l i) (entriesFrom l n (i + 1)) (λ m. Apart (map span m))
+      → Apart (map span (those t (entries_from l n i)))
+  unfolding those entries_from
+  those_apart zero i some off = tt
+  those_apart (suc n) i some off =
+      let more : Apart (map span (those t (entries_from l n (i + 1)))) =
+      those_apart n (i + 1) (λ j h. some j (omega arith)) (λ a b p q ne s u. off a b (omega arith) (omega arith) ne s u) in
+      those_ways t (at l i) (entries_from l n (i + 1)) (λ m. Apart (map span m))
       (λ h. (
         some i (omega arith),
-        every_map (Off (span (at l i))) span (those t (entriesFrom l n (i + 1))) (every-those (λ e. Off (span (at l i)) (span e)) n (i + 1)
+        every_map (Off (span (at l i))) span (those t (entries_from l n (i + 1))) (every_those (λ e. Off (span (at l i)) (span e)) n (i + 1)
             (λ j p q u. off i j (omega arith) (omega arith) (λ e. omega arith) h u)),
         more,
       ))
@@ -69,23 +69,23 @@ module _ (t : MemoryEntry → Bool) (l : Slots) where
   later : (x n i : ℕ) → Passes x n (i + 1) → Passes x (suc n) i
   later x n i s = record { slot = s.slot; from = omega arith; to = omega arith; test = s.test; has = s.has }
 
-  pub those-listed : (x n i : ℕ) → Listed x (map span (those t (entriesFrom l n i))) ↔ Passes x n i
-  unfolding those entriesFrom
-  those-listed x zero i = (λ h. absurd h, λ s. absurd (omega arith))
-  those-listed x (suc n) i =
-      let more = those-listed x n (i + 1) in
-      those-ways t (at l i) (entriesFrom l n (i + 1)) (λ m. Listed x (map span m) ↔ Passes x (suc n) i)
+  pub those_listed : (x n i : ℕ) → Listed x (map span (those t (entries_from l n i))) ↔ Passes x n i
+  unfolding those entries_from
+  those_listed x zero i = (λ h. absurd h, λ s. absurd (omega arith))
+  those_listed x (suc n) i =
+      let more = those_listed x n (i + 1) in
+      those_ways t (at l i) (entries_from l n (i + 1)) (λ m. Listed x (map span m) ↔ Passes x (suc n) i)
       (λ h. (
         ⊎_elim
             (λ (k : Inside x (span (at l i))). record { slot = i; from = omega arith; to = omega arith; test = h; has = record { from = k.0; to = k.1 } })
             (λ k. later x n i (more.0 k)),
         λ s. ⊎_elim
-            (λ (g : s.slot ≤ i). inl (here s g)) (λ (g : i < s.slot). inr (more.1 (after s g))) (le-or-lt s.slot i),
+            (λ (g : s.slot ≤ i). inl (here s g)) (λ (g : i < s.slot). inr (more.1 (after s g))) (le_or_lt s.slot i),
       ))
       (λ h. (
         λ k. later x n i (more.0 k),
         λ s. ⊎_elim
-            (λ (g : s.slot ≤ i). absurd (misses s g h)) (λ (g : i < s.slot). more.1 (after s g)) (le-or-lt s.slot i),
+            (λ (g : s.slot ≤ i). absurd (misses s g h)) (λ (g : i < s.slot). more.1 (after s g)) (le_or_lt s.slot i),
       ))
     where
       here : (s : Passes x (suc n) i) → s.slot ≤ i → Inside x (span (at l i))

@@ -11,19 +11,19 @@ use Rattle.areas.specs.Table.{flat}
 use Rattle.areas.specs.Steps.{puts}
 
 -- ── A number at, and a store to, a place past xs ──
-set-append-add : (xs ys : List ℕ) (i a : ℕ) → set (xs ++ ys) (length xs + i) a ≡ xs ++ set ys i a
-set-append-add [] ys i a = rw (zero-add i)
-set-append-add (x ∷ xs) ys i a = rw (suc-add (length xs) i) (ap (λ (l : List ℕ). x ∷ l) (set-append-add xs ys i a))
+set_append_add : (xs ys : List ℕ) (i a : ℕ) → set (xs ++ ys) (length xs + i) a ≡ xs ++ set ys i a
+set_append_add [] ys i a = rw (zero-add i)
+set_append_add (x ∷ xs) ys i a = rw (suc-add (length xs) i) (ap (λ (l : List ℕ). x ∷ l) (set_append_add xs ys i a))
 
 module _ (xs ys : List ℕ) (m : ℕ) (e : length xs ≡ m) where
-  pub get-past : (i : ℕ) → get_or (xs ++ ys) (m + i) 0 ≡ get_or ys i 0
-  get-past i = subst (λ (k : ℕ). get_or (xs ++ ys) (k + i) 0 ≡ get_or ys i 0) e (get_or-append-add xs ys i 0)
+  pub get_past : (i : ℕ) → get_or (xs ++ ys) (m + i) 0 ≡ get_or ys i 0
+  get_past i = subst (λ (k : ℕ). get_or (xs ++ ys) (k + i) 0 ≡ get_or ys i 0) e (get_or-append-add xs ys i 0)
 
   pub set_past : (i a : ℕ) → set (xs ++ ys) (m + i) a ≡ xs ++ set ys i a
-  set_past i a = subst (λ (k : ℕ). set (xs ++ ys) (k + i) a ≡ xs ++ set ys i a) e (set-append-add xs ys i a)
+  set_past i a = subst (λ (k : ℕ). set (xs ++ ys) (k + i) a ≡ xs ++ set ys i a) e (set_append_add xs ys i a)
 
-  pub get-here : get_or (xs ++ ys) m 0 ≡ get_or ys 0 0
-  get-here = subst (λ (k : ℕ). get_or (xs ++ ys) k 0 ≡ get_or ys 0 0) (add-zero m) (get-past 0)
+  pub get_here : get_or (xs ++ ys) m 0 ≡ get_or ys 0 0
+  get_here = subst (λ (k : ℕ). get_or (xs ++ ys) k 0 ≡ get_or ys 0 0) (add-zero m) (get_past 0)
 
   pub set_here : (a : ℕ) → set (xs ++ ys) m a ≡ xs ++ set ys 0 a
   set_here a = subst (λ (k : ℕ). set (xs ++ ys) k a ≡ xs ++ set ys 0 a) (add-zero m) (set_past 0 a)
@@ -37,42 +37,42 @@ pub puts_one : (l : List ℕ) (n a b : ℕ) → puts l n (interval a b ∷ []) �
 unfolding puts
 puts_one l n a b = refl
 
-pub puts-append : (ps qs : List Interval) (l : List ℕ) (n : ℕ) → puts l n (ps ++ qs) ≡ puts (puts l n ps) (n + length ps) qs
+pub puts_append : (ps qs : List Interval) (l : List ℕ) (n : ℕ) → puts l n (ps ++ qs) ≡ puts (puts l n ps) (n + length ps) qs
 unfolding puts
-puts-append [] qs l n = ap (λ (k : ℕ). puts l k qs) (omega arith)
-puts-append (p ∷ ps) qs l n =
-    puts-append ps qs (set (set l (n + n) p.lo) (n + n + 1) (p.hi - p.lo)) (n + 1)
+puts_append [] qs l n = ap (λ (k : ℕ). puts l k qs) (omega arith)
+puts_append (p ∷ ps) qs l n =
+    puts_append ps qs (set (set l (n + n) p.lo) (n + n + 1) (p.hi - p.lo)) (n + 1)
     ∙ ap (λ (k : ℕ). puts (puts (set (set l (n + n) p.lo) (n + n + 1) (p.hi - p.lo)) (n + 1) ps) k qs) (omega arith)
 
-pub length-puts : (ps : List Interval) (l : List ℕ) (n : ℕ) → length (puts l n ps) ≡ length l
+pub length_puts : (ps : List Interval) (l : List ℕ) (n : ℕ) → length (puts l n ps) ≡ length l
 unfolding puts
-length-puts [] l n = refl
-length-puts (p ∷ ps) l n = length-puts ps (set (set l (n + n) p.lo) (n + n + 1) (p.hi - p.lo)) (n + 1) ∙ simp length-set
+length_puts [] l n = refl
+length_puts (p ∷ ps) l n = length_puts ps (set (set l (n + n) p.lo) (n + n + 1) (p.hi - p.lo)) (n + 1) ∙ simp length-set
 
 -- ── flat ──
-pub flat-length : (ps : List Interval) → length (flat ps) ≡ length ps + length ps
+pub flat_length : (ps : List Interval) → length (flat ps) ≡ length ps + length ps
 unfolding flat
-flat-length [] = refl
-flat-length (p ∷ ps) = omega (arith, flat-length ps)
+flat_length [] = refl
+flat_length (p ∷ ps) = omega (arith, flat_length ps)
 
 -- one more area before the seam
-pub flat-snoc : (pre : List Interval) (p : Interval) (l : List ℕ) → flat (pre ++ (p ∷ [])) ++ l ≡ flat pre ++ (p.lo ∷ (p.hi - p.lo) ∷ l)
+pub flat_snoc : (pre : List Interval) (p : Interval) (l : List ℕ) → flat (pre ++ (p ∷ [])) ++ l ≡ flat pre ++ (p.lo ∷ (p.hi - p.lo) ∷ l)
 unfolding flat
-flat-snoc [] p l = refl
-flat-snoc (q ∷ pre) p l = ap (λ (m : List ℕ). q.lo ∷ (q.hi - q.lo) ∷ m) (flat-snoc pre p l)
+flat_snoc [] p l = refl
+flat_snoc (q ∷ pre) p l = ap (λ (m : List ℕ). q.lo ∷ (q.hi - q.lo) ∷ m) (flat_snoc pre p l)
 
-puts-flat : (ps : List Interval) (xs ys : List ℕ) (n : ℕ) → length xs ≡ n + n → length ps + length ps ≤ length ys → puts (xs ++ ys) n ps ≡ xs ++ (flat ps ++ drop (length ps + length ps) ys)
+puts_flat : (ps : List Interval) (xs ys : List ℕ) (n : ℕ) → length xs ≡ n + n → length ps + length ps ≤ length ys → puts (xs ++ ys) n ps ≡ xs ++ (flat ps ++ drop (length ps + length ps) ys)
 unfolding puts flat
-puts-flat [] xs ys n lx ly = refl
-puts-flat (p ∷ ps) xs [] n lx ly = absurd (omega arith)
-puts-flat (p ∷ ps) xs (a ∷ []) n lx ly = absurd (omega arith)
-puts-flat (p ∷ ps) xs (a ∷ b ∷ zs) n lx ly =
+puts_flat [] xs ys n lx ly = refl
+puts_flat (p ∷ ps) xs [] n lx ly = absurd (omega arith)
+puts_flat (p ∷ ps) xs (a ∷ []) n lx ly = absurd (omega arith)
+puts_flat (p ∷ ps) xs (a ∷ b ∷ zs) n lx ly =
     let two : List ℕ = p.lo ∷ (p.hi - p.lo) ∷ [] in
     let twice : suc (length ps) + suc (length ps) ≡ suc (suc (length ps + length ps)) = omega arith in
     rw (set_here xs (a ∷ b ∷ zs) (n + n) lx p.lo, set_past xs (p.lo ∷ b ∷ zs) (n + n) lx 1 (p.hi - p.lo), twice)
-    (rw (← append_assoc xs two zs) (puts-flat ps (xs ++ two) zs (n + 1) (omega (arith, length-append xs two)) (omega arith))
+    (rw (← append_assoc xs two zs) (puts_flat ps (xs ++ two) zs (n + 1) (omega (arith, length-append xs two)) (omega arith))
     ∙ append_assoc xs two (flat ps ++ drop (length ps + length ps) zs))
 
 -- written from the first slot on
-pub puts-front : (ps : List Interval) (l : List ℕ) → length ps + length ps ≤ length l → puts l 0 ps ≡ flat ps ++ drop (length ps + length ps) l
-puts-front ps l h = puts-flat ps [] l 0 (omega arith) h
+pub puts_front : (ps : List Interval) (l : List ℕ) → length ps + length ps ≤ length l → puts l 0 ps ≡ flat ps ++ drop (length ps + length ps) l
+puts_front ps l h = puts_flat ps [] l 0 (omega arith) h

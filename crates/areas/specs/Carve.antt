@@ -1,28 +1,28 @@
 -- An area carved by reservations, as `add_memory` does it: document 01, "Areas".
--- CarveLaws.carve-right says what it comes to: an address is left exactly when it lies in the area and in no reservation.
+-- CarveLaws.carve_right says what it comes to: an address is left exactly when it lies in the area and in no reservation.
 use Rattle.std.specs.Prelude.{List, [], ◌∷◌, ◌++◌, cond, ℕ, zero, suc, ◌-◌, ltb, leb}
 use Rattle.areas.specs.Interval.{Interval, interval}
 use Rattle.areas.specs.declared.Cut.{Cut}
 use Rattle.areas.specs.declared.Cut.TheVariants.{Gone, Rest, Split}
 
 -- the end of an area, where it lies in the reservation: back to the reservation's start
-abbrev pub trimEnd : Interval → ℕ → ℕ
-trimEnd r e = cond (ltb r.lo e) (cond (leb e r.hi) r.lo e) e
+abbrev pub trim_end : Interval → ℕ → ℕ
+trim_end r e = cond (ltb r.lo e) (cond (leb e r.hi) r.lo e) e
 
 -- the start of an area, where it lies in the reservation: on to the reservation's end
-abbrev pub trimStart : Interval → ℕ → ℕ
-trimStart r s = cond (leb r.lo s) (cond (ltb s r.hi) r.hi s) s
+abbrev pub trim_start : Interval → ℕ → ℕ
+trim_start r s = cond (leb r.lo s) (cond (ltb s r.hi) r.hi s) s
 
 -- what the reservation leaves of [s, e), by the Rust's tests in their order: the end is trimmed, then the start,
 -- and what then still holds the reservation is split
-abbrev pub cutStart : Interval → ℕ → ℕ → Cut
-cutStart r s e = cond (leb e s) Gone (cond (leb s r.lo) (cond (ltb r.lo e) (Split s r.lo r.hi e) (Rest s e)) (Rest s e))
+abbrev pub cut_start : Interval → ℕ → ℕ → Cut
+cut_start r s e = cond (leb e s) Gone (cond (leb s r.lo) (cond (ltb r.lo e) (Split s r.lo r.hi e) (Rest s e)) (Rest s e))
 
-abbrev pub cutEnd : Interval → ℕ → ℕ → Cut
-cutEnd r s e = cond (leb e s) Gone (cutStart r (trimStart r s) e)
+abbrev pub cut_end : Interval → ℕ → ℕ → Cut
+cut_end r s e = cond (leb e s) Gone (cut_start r (trim_start r s) e)
 
-unfoldable pub cutBy : Interval → ℕ → ℕ → Cut
-cutBy r s e = cutEnd r s (trimEnd r e)
+unfoldable pub cut_by : Interval → ℕ → ℕ → Cut
+cut_by r s e = cut_end r s (trim_end r e)
 
 -- what is left is carved on; of a split, the piece on the left comes first
 abbrev pub after : (ℕ → ℕ → List Interval) → (ℕ → ℕ → List Interval) → Cut → List Interval
@@ -33,31 +33,31 @@ after left go (Split a b c d) = left a b ++ go c d
 -- [s, e) against the reservations that are still to come, where `left` carves a piece on the left
 unfoldable pub walk : (ℕ → ℕ → List Interval) → List Interval → ℕ → ℕ → List Interval
 walk left [] s e = interval s e ∷ []
-walk left (r ∷ rs) s e = after left (λ a b. walk left rs a b) (cutBy r s e)
+walk left (r ∷ rs) s e = after left (λ a b. walk left rs a b) (cut_by r s e)
 
 -- "The piece on the left is carved again from the first reservation": k bounds how deep that goes
-unfoldable pub carveBy : ℕ → List Interval → ℕ → ℕ → List Interval
-carveBy zero all s e = []
-carveBy (suc k) all s e = walk (λ a b. carveBy k all a b) all s e
+unfoldable pub carve_by : ℕ → List Interval → ℕ → ℕ → List Interval
+carve_by zero all s e = []
+carve_by (suc k) all s e = walk (λ a b. carve_by k all a b) all s e
 
 -- the nonempty area [s, e) less the reservations. A piece on the left is smaller than its area, so its size is depth enough:
--- CarveLaws.carve-eq is the equation that `add_memory` is, with no bound in it
+-- CarveLaws.carve_eq is the equation that `add_memory` is, with no bound in it
 unfoldable pub carve : List Interval → ℕ → ℕ → List Interval
-carve all s e = carveBy (e - s) all s e
+carve all s e = carve_by (e - s) all s e
 
 -- ── How deep the calls nest ──
 
 -- what is left is carved on; a piece on the left is one call deeper
-abbrev pub afterNests : (ℕ → ℕ → Type 0) → (ℕ → ℕ → Type 0) → Cut → Type 0
-afterNests left go Gone = Unit {0}
-afterNests left go (Rest a b) = go a b
-afterNests left go (Split a b c d) = left a b × go c d
+abbrev pub after_nests : (ℕ → ℕ → Type 0) → (ℕ → ℕ → Type 0) → Cut → Type 0
+after_nests left go Gone = Unit {0}
+after_nests left go (Rest a b) = go a b
+after_nests left go (Split a b c d) = left a b × go c d
 
-unfoldable pub walkNests : (ℕ → ℕ → Type 0) → List Interval → ℕ → ℕ → Type 0
-walkNests left [] s e = Unit {0}
-walkNests left (r ∷ rs) s e = afterNests left (λ a b. walkNests left rs a b) (cutBy r s e)
+unfoldable pub walk_nests : (ℕ → ℕ → Type 0) → List Interval → ℕ → ℕ → Type 0
+walk_nests left [] s e = Unit {0}
+walk_nests left (r ∷ rs) s e = after_nests left (λ a b. walk_nests left rs a b) (cut_by r s e)
 
 -- carving [s, e) makes at most k calls of itself one within the other, the first included
 unfoldable pub Nests : ℕ → List Interval → ℕ → ℕ → Type 0
 Nests zero all s e = ⊥
-Nests (suc k) all s e = walkNests (λ a b. Nests k all a b) all s e
+Nests (suc k) all s e = walk_nests (λ a b. Nests k all a b) all s e

@@ -2,14 +2,14 @@
 use Rattle.std.specs.Prelude.{◌≡◌, List, [], ◌∷◌, ◌++◌, Bool, cond, ℕ, ◌+◌, ◌-◌, ◌/◌, leb, length, drop}
 use Rattle.memory.specs.declared.MemoryMap.{MemoryMap}
 use Rattle.areas.specs.Interval.{Interval}
-use Rattle.areas.specs.Areas.{areasOf}
+use Rattle.areas.specs.Areas.{areas_of}
 use Rattle.areas.specs.declared.Limit.{Limit}
 use Rattle.areas.specs.declared.Built.{Built}
 use Rattle.areas.specs.declared.Built.TheVariants.{Done, TooManyAreas}
 
-abbrev pub builtNumber : Built → ℕ
-builtNumber (Done n) = 0
-builtNumber TooManyAreas = 3
+abbrev pub built_number : Built → ℕ
+built_number (Done n) = 0
+built_number TooManyAreas = 3
 
 -- ── For any form of slots ──
 
@@ -21,17 +21,17 @@ pub record Form (A : Type 0) : Type 0 where
   pub written : List Interval → List A
 
 -- "Refused exactly when there are more areas than slots."
-abbrev pub answerFor : ℕ → List Interval → Built
-answerFor slots areas = cond (leb (length areas) slots) (Done (length areas)) TooManyAreas
+abbrev pub answer_for : ℕ → List Interval → Built
+answer_for slots areas = cond (leb (length areas) slots) (Done (length areas)) TooManyAreas
 
 -- "all past the count is untouched"; a refused build "writes nothing"
-abbrev pub lentAfter : {A : Type 0} → Form A → List Interval → List A → List A
-lentAfter f areas l = cond (leb (length areas) (f.slots l)) (f.written areas ++ drop (f.items (length areas)) l) l
+abbrev pub lent_after : {A : Type 0} → Form A → List Interval → List A → List A
+lent_after f areas l = cond (leb (length areas) (f.slots l)) (f.written areas ++ drop (f.items (length areas)) l) l
 
 -- a build of these areas into lent items l, that are l' afterwards
 pub record BuildsIn {A : Type 0} (f : Form A) (areas : List Interval) (l l' : List A) (r : Built) : Type 0 where
-  pub answer : r ≡ answerFor (f.slots l) areas
-  pub after : l' ≡ lentAfter f areas l
+  pub answer : r ≡ answer_for (f.slots l) areas
+  pub after : l' ≡ lent_after f areas l
 
 -- ── Numbers: "number slots first" ──
 
@@ -41,22 +41,22 @@ flat [] = []
 flat (p ∷ ps) = p.lo ∷ (p.hi - p.lo) ∷ flat ps
 
 -- "A slot is a whole pair": an odd last number is none
-abbrev pub slotsIn : List ℕ → ℕ
-slotsIn l = length l / 2
+abbrev pub slots_in : List ℕ → ℕ
+slots_in l = length l / 2
 
 abbrev pub numbers : Form ℕ
-numbers = record { slots = slotsIn; items = λ n. n + n; written = flat }
+numbers = record { slots = slots_in; items = λ n. n + n; written = flat }
 
 abbrev pub fits : List Interval → List ℕ → Bool
-fits areas l = leb (length areas) (slotsIn l)
+fits areas l = leb (length areas) (slots_in l)
 
 unfoldable pub answer_of : List Interval → List ℕ → Built
-answer_of areas l = answerFor (numbers.slots l) areas
+answer_of areas l = answer_for (numbers.slots l) areas
 
 unfoldable pub table_of : List Interval → List ℕ → List ℕ
-table_of areas l = lentAfter numbers areas l
+table_of areas l = lent_after numbers areas l
 
 -- a build on lent numbers l, that are l' afterwards
 pub record Builds (p : ℕ) (m : MemoryMap) (low high : Limit) (l l' : List ℕ) (r : Built) : Type 0 where
-  pub answer : r ≡ answer_of (areasOf p low high m) l
-  pub table : l' ≡ table_of (areasOf p low high m) l
+  pub answer : r ≡ answer_of (areas_of p low high m) l
+  pub table : l' ≡ table_of (areas_of p low high m) l

@@ -5,9 +5,9 @@ use Rattle.memory.specs.declared.MemoryMap.{MemoryMap}
 use Rattle.areas.specs.declared.Built.{Built}
 use Rattle.areas.specs.declared.Built.TheVariants.{Done, TooManyAreas}
 use Rattle.areas.specs.declared.Limit.TheVariants.{Missing}
-use Rattle.areas.specs.Areas.{areasOf}
+use Rattle.areas.specs.Areas.{areas_of}
 use Rattle.areas.specs.Table.{answer_of, table_of}
-use Rattle.late_claim.specs.Late.{lateOf}
+use Rattle.late_claim.specs.Late.{late_of}
 
 -- the number of areas, or 0 where they are too many
 abbrev pub count_of : Built → ℕ
@@ -16,10 +16,10 @@ count_of TooManyAreas = 0
 
 -- a build without limits
 pub record BuildsFree (p : ℕ) (m : MemoryMap) (l l' : List ℕ) (n : ℕ) : Type 0 where
-  pub count : n ≡ count_of (answer_of (areasOf p Missing Missing m) l)
-  pub table : l' ≡ table_of (areasOf p Missing Missing m) l
+  pub count : n ≡ count_of (answer_of (areas_of p Missing Missing m) l)
+  pub table : l' ≡ table_of (areas_of p Missing Missing m) l
 
 -- a late claim: the count and the slots after it
 pub record LateIs (p : ℕ) (m : MemoryMap) (c : Claim) (n : ℕ) (l l' : List ℕ) (n' : ℕ) : Type 0 where
-  pub count : n' ≡ (lateOf p m c n l).count
-  pub table : l' ≡ (lateOf p m c n l).table
+  pub count : n' ≡ (late_of p m c n l).count
+  pub table : l' ≡ (late_of p m c n l).table

@@ -1,7 +1,7 @@
 // What `oracle bench` times of our crates: calls that Rust and C can make.
 ghost use Rattle.std.specs.Prelude.{◌≡◌};
 ghost use Rattle.entry.specs.Claim.{claim};
-ghost use Rattle.memory.specs.Map.{mapOf, blank, registered};
+ghost use Rattle.memory.specs.Map.{map_of, blank, registered};
 ghost use Rattle.memory.specs.Made.{Made};
 ghost use Rattle.bootloader.specs.List.{listed};
 ghost use Rattle.bench.specs.Timed.{BuildsFree, LateIs};
@@ -29,8 +29,8 @@ pub extern "C" fn bench_register(
     base: u64,
     kind: u64,
 ) -> usize
-    requires { Made 4096 (mapOf starts.now ends.now kinds.now size) }
-    ensures { result ≡ (registered 4096 (mapOf starts.now ends.now kinds.now size) (claim base 4096 kind)).map.size }
+    requires { Made 4096 (map_of starts.now ends.now kinds.now size) }
+    ensures { result ≡ (registered 4096 (map_of starts.now ends.now kinds.now size) (claim base 4096 kind)).map.size }
 {
     let map = MemoryMap {
         starts: *starts,
@@ -52,8 +52,8 @@ pub extern "C" fn bench_build(
     size: usize,
     slots: &mut [u64],
 ) -> usize
-    requires { Made 4096 (mapOf starts.now ends.now kinds.now size) }
-    ensures { BuildsFree 4096 (mapOf starts.now ends.now kinds.now size) slots.old slots.new result }
+    requires { Made 4096 (map_of starts.now ends.now kinds.now size) }
+    ensures { BuildsFree 4096 (map_of starts.now ends.now kinds.now size) slots.old slots.new result }
 {
     let map = MemoryMap {
         starts: *starts,
@@ -79,8 +79,8 @@ pub extern "C" fn bench_late(
     slots: &mut [u64],
     count: usize,
 ) -> usize
-    requires { Made 4096 (mapOf starts.now ends.now kinds.now size) }
-    ensures { LateIs 4096 (mapOf starts.now ends.now kinds.now size) (claim base 4096 kind) count slots.old slots.new result }
+    requires { Made 4096 (map_of starts.now ends.now kinds.now size) }
+    ensures { LateIs 4096 (map_of starts.now ends.now kinds.now size) (claim base 4096 kind) count slots.old slots.new result }
 {
     let map = MemoryMap {
         starts: *starts,

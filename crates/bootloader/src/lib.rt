@@ -1,16 +1,16 @@
 // The bootloader's list: 24 bytes an entry, registered whole or not at all.
 ghost use Rattle.std.specs.Prelude.{◌≡◌};
-ghost use Rattle.memory.specs.Map.{mapOf, left};
+ghost use Rattle.memory.specs.Map.{map_of, left};
 ghost use Rattle.memory.specs.Made.{Made};
-ghost use Rattle.memory.specs.Run.{registeredAll};
-ghost use Rattle.bootloader.specs.List.{allKnown, claims, listed};
+ghost use Rattle.memory.specs.Run.{registered_all};
+ghost use Rattle.bootloader.specs.List.{all_known, claims, listed};
 
 use entry::KindRead;
 use memory::{Admitted, Answer, MemoryMap, Registered};
 
 // Whether every entry of a list has one of the seven kinds.
 fn all_known(list: &[u8]) -> bool
-    ensures { result ≡ allKnown list.now }
+    ensures { result ≡ all_known list.now }
 {
     let n = list.len() / 24;
     let mut i: usize = 0;
@@ -32,8 +32,8 @@ fn register_list_in(
     size: usize,
     list: &[u8],
 ) -> Admitted
-    requires { Made 4096 (mapOf starts.old ends.old kinds.old size) }
-    ensures { left result starts.new ends.new kinds.new ≡ registeredAll 4096 (mapOf starts.old ends.old kinds.old size) (claims list.now) }
+    requires { Made 4096 (map_of starts.old ends.old kinds.old size) }
+    ensures { left result starts.new ends.new kinds.new ≡ registered_all 4096 (map_of starts.old ends.old kinds.old size) (claims list.now) }
 {
     let mut held = size;
     let n = list.len() / 24;

@@ -1,7 +1,7 @@
 // The values of properties: cell counts, the rows of `reg` and `ranges`, and strings. Devicetree Specification v0.4, chapter 2.
 ghost use Rattle.std.specs.Prelude.{◌≡◌, ◌≤◌};
-ghost use Rattle.cells.specs.Count.{statedBy, cellBytes, width_by};
-ghost use Rattle.cells.specs.Rows.{number_at, reg_of, rangesOf, regRow, rangeRow};
+ghost use Rattle.cells.specs.Count.{stated_by, cell_bytes, width_by};
+ghost use Rattle.cells.specs.Rows.{number_at, reg_of, ranges_of, reg_row, range_row};
 ghost use Rattle.cells.specs.Text.{text_of};
 
 // What a cell property of a node says: so many cells; it is not there; or it is not 4 bytes long.
@@ -52,7 +52,7 @@ pub enum StringValue {
 
 // The count that the value of a cell property states.
 pub fn stated(v: &[u8]) -> CellCount
-    ensures { result ≡ statedBy v.now }
+    ensures { result ≡ stated_by v.now }
 {
     if v.len() == 4 {
         return CellCount::Stated(words::be32(v, 0));
@@ -62,7 +62,7 @@ pub fn stated(v: &[u8]) -> CellCount
 
 // How many bytes so many cells take; 0 where they are not 1 or 2.
 fn cell_bytes(c: usize) -> usize
-    ensures { result ≡ cellBytes c }
+    ensures { result ≡ cell_bytes c }
 {
     if c == 1 {
         return 4;
@@ -95,7 +95,7 @@ fn number(v: &[u8], w: usize, at: usize) -> u64
 
 // Row i of a value of `reg`, by the cells of the node's parent.
 pub fn reg_row(v: &[u8], address: CellCount, size: CellCount, i: usize) -> RegRow
-    ensures { result ≡ regRow (reg_of address size v.now) i }
+    ensures { result ≡ reg_row (reg_of address size v.now) i }
 {
     if v.len() == 0 {
         return RegRow::PastReg;
@@ -130,7 +130,7 @@ pub fn range_row(
     size: CellCount,
     i: usize,
 ) -> RangeRow
-    ensures { result ≡ rangeRow (rangesOf address parent size v.now) i }
+    ensures { result ≡ range_row (ranges_of address parent size v.now) i }
 {
     if v.len() == 0 {
         return RangeRow::PastRange;

@@ -8,23 +8,23 @@ use Rattle.entry.specs.Claim.{Claim, claim}
 use Rattle.cells.specs.declared.CellCount.{CellCount}
 use Rattle.cells.specs.declared.Region.{Region}
 use Rattle.cells.specs.declared.Range.{Range}
-use Rattle.cells.specs.Rows.{Table, unreadable, rows, reg_of, rangesOf}
+use Rattle.cells.specs.Rows.{Table, unreadable, rows, reg_of, ranges_of}
 use Rattle.fdt.specs.Tree.{Property, Nodes, none, node}
-use Rattle.nodes.specs.OnTree.{kidsOf}
+use Rattle.nodes.specs.OnTree.{kids_of}
 use Rattle.reading.specs.Values.{value_of}
 use Rattle.windows.specs.declared.Window.{Window}
 use Rattle.windows.specs.declared.Window.TheVariants.{To, Nowhere, Unreadable}
 use Rattle.windows.specs.Window.{window}
-use Rattle.subtree.specs.Names.{regName, rangesName, sizeName, allocRangesName, modelName, interruptControllerName, socName, reservedMemoryName, dummyVirt}
-use Rattle.subtree.specs.Subtree.{propsOf, underRoot}
-use Rattle.text.specs.Strings.{stringIn, contains}
+use Rattle.subtree.specs.Names.{reg_name, ranges_name, size_name, alloc_ranges_name, model_name, interrupt_controller_name, soc_name, reserved_memory_name, dummy_virt}
+use Rattle.subtree.specs.Subtree.{props_of, under_root}
+use Rattle.text.specs.Strings.{string_in, contains}
 use Rattle.translation.specs.Translation.{address_of, size_of, climbed}
 use Rattle.reserved.specs.declared.Exact.{Exact}
 use Rattle.reserved.specs.declared.Exact.TheVariants.{One, NotExact}
-use Rattle.reserved.specs.Reserved.{available, childrenCount, exactOf}
+use Rattle.reserved.specs.Reserved.{available, children_count, exact_of}
 use Rattle.stdout.specs.declared.Uart.{Uart}
 use Rattle.stdout.specs.declared.Uart.TheVariants.{Range as UartRange, NoUart}
-use Rattle.stdout.specs.Stdout.{isThere, uartOf}
+use Rattle.stdout.specs.Stdout.{is_there, uart_of}
 use Rattle.claims.specs.declared.Way.{Way}
 use Rattle.claims.specs.declared.Way.TheVariants.{Reserve, Soc, Controllers}
 
@@ -36,13 +36,13 @@ and_then (some c) l = c ∷ l
 -- ── Reservation block ──
 
 -- "Size 0 alone, or a sum of 2^64 or more, skips that entry."
-unfoldable pub blockClaim : Region → Option Claim
-blockClaim r =
+unfoldable pub block_claim : Region → Option Claim
+block_claim r =
     cond (eqb r.size 0 || leb (2 ^ 64) (r.address + r.size)) nothing (some (claim r.address r.size (number_of Reserved)))
 
-unfoldable pub blockClaims : List Region → List Claim
-blockClaims [] = []
-blockClaims (r ∷ l) = and_then (blockClaim r) (blockClaims l)
+unfoldable pub block_claims : List Region → List Claim
+block_claims [] = []
+block_claims (r ∷ l) = and_then (block_claim r) (block_claims l)
 
 -- ── Children, by the rule of their parent: /reserved-memory's, /soc's, or the root's ──
 
@@ -51,107 +51,107 @@ abbrev pub entries : Table Region → List Region
 entries unreadable = []
 entries (rows l) = l
 
-abbrev pub entriesIn : CellCount → CellCount → Option (List ℕ) → List Region
-entriesIn a c nothing = []
-entriesIn a c (some v) = entries (reg_of a c v)
+abbrev pub entries_in : CellCount → CellCount → Option (List ℕ) → List Region
+entries_in a c nothing = []
+entries_in a c (some v) = entries (reg_of a c v)
 
-abbrev pub theOne : Exact → List Region
-theOne (One r) = r ∷ []
-theOne NotExact = []
+abbrev pub the_one : Exact → List Region
+the_one (One r) = r ∷ []
+the_one NotExact = []
 
 -- "Else with `size`: one claim, exactly if .. Otherwise nothing."
 abbrev pub dynamic : CellCount → CellCount → Option (List ℕ) → Option (List ℕ) → List Region
 dynamic a c nothing w = []
 dynamic a c (some v) nothing = []
-dynamic a c (some v) (some w) = theOne (exactOf a c v w)
+dynamic a c (some v) (some w) = the_one (exact_of a c v w)
 
 -- "With `reg` (even empty): its entries. Else .."
-abbrev pub fixedOr : CellCount → CellCount → Option (List ℕ) → List Region → List Region
-fixedOr a c (some v) l = entries (reg_of a c v)
-fixedOr a c nothing l = l
+abbrev pub fixed_or : CellCount → CellCount → Option (List ℕ) → List Region → List Region
+fixed_or a c (some v) l = entries (reg_of a c v)
+fixed_or a c nothing l = l
 
 -- the regions of a child with these properties, whose parent has these cells
-unfoldable pub childRegions : Way → CellCount → CellCount → List Property → List Region
-childRegions Reserve a c ps =
-    cond (available ps) (fixedOr a c (value_of regName ps) (dynamic a c (value_of sizeName ps) (value_of allocRangesName ps))) []
-childRegions Soc a c ps = entriesIn a c (value_of regName ps)
-childRegions Controllers a c ps = cond (isThere (value_of interruptControllerName ps)) (entriesIn a c (value_of regName ps)) []
+unfoldable pub child_regions : Way → CellCount → CellCount → List Property → List Region
+child_regions Reserve a c ps =
+    cond (available ps) (fixed_or a c (value_of reg_name ps) (dynamic a c (value_of size_name ps) (value_of alloc_ranges_name ps))) []
+child_regions Soc a c ps = entries_in a c (value_of reg_name ps)
+child_regions Controllers a c ps = cond (is_there (value_of interrupt_controller_name ps)) (entries_in a c (value_of reg_name ps)) []
 
 -- where a region lies: a reservation where it says; a device of /soc by the soc window; the root's child translated, with no ancestor
 -- between
-unfoldable pub landsBy : Way → Table Range → ℕ → ℕ → Window
-landsBy Reserve t address size = To address
-landsBy Soc t address size = window true t address size
-landsBy Controllers t address size = climbed ([] ∷ []) address size
+unfoldable pub lands_by : Way → Table Range → ℕ → ℕ → Window
+lands_by Reserve t address size = To address
+lands_by Soc t address size = window true t address size
+lands_by Controllers t address size = climbed ([] ∷ []) address size
 
-abbrev pub kindBy : Way → ℕ
-kindBy Reserve = number_of Reserved
-kindBy Soc = number_of Device
-kindBy Controllers = number_of Device
+abbrev pub kind_by : Way → ℕ
+kind_by Reserve = number_of Reserved
+kind_by Soc = number_of Device
+kind_by Controllers = number_of Device
 
 abbrev pub landed : Way → Window → ℕ → Option Claim
-landed way (To x) size = some (claim x size (kindBy way))
+landed way (To x) size = some (claim x size (kind_by way))
 landed way Nowhere size = nothing
 landed way Unreadable size = nothing
 
-unfoldable pub claimBy : Way → Table Range → Region → Option Claim
-claimBy way t r = landed way (landsBy way t r.address r.size) r.size
+unfoldable pub claim_by : Way → Table Range → Region → Option Claim
+claim_by way t r = landed way (lands_by way t r.address r.size) r.size
 
-unfoldable pub claimsBy : Way → Table Range → List Region → List Claim
-claimsBy way t [] = []
-claimsBy way t (r ∷ l) = and_then (claimBy way t r) (claimsBy way t l)
+unfoldable pub claims_by : Way → Table Range → List Region → List Claim
+claims_by way t [] = []
+claims_by way t (r ∷ l) = and_then (claim_by way t r) (claims_by way t l)
 
 -- children in a row
-unfoldable pub kidClaims : Way → Table Range → CellCount → CellCount → Nodes → List Claim
-kidClaims way t a c none = []
-kidClaims way t a c (node q nm ps kids rest) = claimsBy way t (childRegions way a c ps) ++ kidClaims way t a c rest
+unfoldable pub kid_claims : Way → Table Range → CellCount → CellCount → Nodes → List Claim
+kid_claims way t a c none = []
+kid_claims way t a c (node q nm ps kids rest) = claims_by way t (child_regions way a c ps) ++ kid_claims way t a c rest
 
 -- ── The parts ──
 
 -- /reserved-memory
-unfoldable pub reservedClaims : Nodes → List Claim
-reservedClaims t = go (underRoot reservedMemoryName t)
+unfoldable pub reserved_claims : Nodes → List Claim
+reserved_claims t = go (under_root reserved_memory_name t)
   where
     go : Nodes → List Claim
     go s =
-        cond (childrenCount (propsOf t) (propsOf s)) (kidClaims Reserve (rows []) (address_of (propsOf s)) (size_of (propsOf s)) (kidsOf s)) []
+        cond (children_count (props_of t) (props_of s)) (kid_claims Reserve (rows []) (address_of (props_of s)) (size_of (props_of s)) (kids_of s)) []
 
-abbrev pub socBy : Nodes → Nodes → Option (List ℕ) → List Claim
-socBy t s nothing = []
-socBy t s (some v) =
-    kidClaims Soc (rangesOf (address_of (propsOf s)) (address_of (propsOf t)) (size_of (propsOf s)) v) (address_of (propsOf s)) (size_of (propsOf s)) (kidsOf s)
+abbrev pub soc_by : Nodes → Nodes → Option (List ℕ) → List Claim
+soc_by t s nothing = []
+soc_by t s (some v) =
+    kid_claims Soc (ranges_of (address_of (props_of s)) (address_of (props_of t)) (size_of (props_of s)) v) (address_of (props_of s)) (size_of (props_of s)) (kids_of s)
 
 -- "each readable `reg` entry of /soc's children through the soc window"; "no `ranges`, no claim"
-unfoldable pub socClaims : Nodes → List Claim
-socClaims t = socBy t (underRoot socName t) (value_of rangesName (propsOf (underRoot socName t)))
+unfoldable pub soc_claims : Nodes → List Claim
+soc_claims t = soc_by t (under_root soc_name t) (value_of ranges_name (props_of (under_root soc_name t)))
 
-abbrev pub uartClaim : Uart → Option Claim
-uartClaim (UartRange r) = some (claim r.address r.size (number_of Device))
-uartClaim NoUart = nothing
+abbrev pub uart_claim : Uart → Option Claim
+uart_claim (UartRange r) = some (claim r.address r.size (number_of Device))
+uart_claim NoUart = nothing
 
 -- "then the first `reg` entry of the stdout node, if it has `compatible`, translated"
-unfoldable pub stdoutClaims : Nodes → List Claim
-stdoutClaims t = and_then (uartClaim (uartOf t)) []
+unfoldable pub stdout_claims : Nodes → List Claim
+stdout_claims t = and_then (uart_claim (uart_of t)) []
 
 -- "then the root's children with `interrupt-controller`, translated"
-unfoldable pub controllerClaims : Nodes → List Claim
-controllerClaims t = kidClaims Controllers (rows []) (address_of (propsOf t)) (size_of (propsOf t)) (kidsOf t)
+unfoldable pub controller_claims : Nodes → List Claim
+controller_claims t = kid_claims Controllers (rows []) (address_of (props_of t)) (size_of (props_of t)) (kids_of t)
 
-abbrev pub holdsVirt : Option (List ℕ) → Bool
-holdsVirt nothing = false
-holdsVirt (some s) = contains s dummyVirt
+abbrev pub holds_virt : Option (List ℕ) → Bool
+holds_virt nothing = false
+holds_virt (some s) = contains s dummy_virt
 
 -- "If the build is for 64-bit ARM and the root's `model` contains `linux,dummy-virt`"
-unfoldable pub isVirt : Bool → Nodes → Bool
-isVirt arm t = arm && holdsVirt (stringIn (value_of modelName (propsOf t)))
+unfoldable pub is_virt : Bool → Nodes → Bool
+is_virt arm t = arm && holds_virt (string_in (value_of model_name (props_of t)))
 
 -- "0x08000000 size 0x08000000 and 0x10000000 size 0x30000000, and nothing else"
-abbrev pub virtClaims : List Claim
-virtClaims = claim 0x08000000 0x08000000 (number_of Device) ∷ claim 0x10000000 0x30000000 (number_of Device) ∷ []
+abbrev pub virt_claims : List Claim
+virt_claims = claim 0x08000000 0x08000000 (number_of Device) ∷ claim 0x10000000 0x30000000 (number_of Device) ∷ []
 
-unfoldable pub deviceClaims : Bool → Nodes → List Claim
-deviceClaims arm t = cond (isVirt arm t) virtClaims (socClaims t ++ (stdoutClaims t ++ controllerClaims t))
+unfoldable pub device_claims : Bool → Nodes → List Claim
+device_claims arm t = cond (is_virt arm t) virt_claims (soc_claims t ++ (stdout_claims t ++ controller_claims t))
 
 -- "the tree's reservations, the tree's devices"
 unfoldable pub claims_of : Bool → List Region → Nodes → List Claim
-claims_of arm block t = blockClaims block ++ (reservedClaims t ++ deviceClaims arm t)
+claims_of arm block t = block_claims block ++ (reserved_claims t ++ device_claims arm t)

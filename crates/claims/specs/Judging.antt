@@ -3,63 +3,63 @@ use Rattle.std.specs.Prelude.{ℕ, List, [], ◌∷◌, Bool, true, false, cond,
 use Rattle.std.proofs.Math.Option.{Option, some, none as nothing}
 use Rattle.cells.specs.declared.CellCount.{CellCount}
 use Rattle.cells.specs.declared.Region.{Region}
-use Rattle.cells.specs.Rows.{Table, unreadable, rows, reg_of, rangesOf}
+use Rattle.cells.specs.Rows.{Table, unreadable, rows, reg_of, ranges_of}
 use Rattle.fdt.specs.Tree.{Property, Nodes, none, node}
-use Rattle.nodes.specs.OnTree.{kidsOf}
+use Rattle.nodes.specs.OnTree.{kids_of}
 use Rattle.reading.specs.Values.{value_of}
-use Rattle.subtree.specs.Names.{regName, rangesName, socName, reservedMemoryName}
-use Rattle.subtree.specs.Subtree.{propsOf, underRoot}
+use Rattle.subtree.specs.Names.{reg_name, ranges_name, soc_name, reserved_memory_name}
+use Rattle.subtree.specs.Subtree.{props_of, under_root}
 use Rattle.translation.specs.Translation.{address_of, size_of}
-use Rattle.reserved.specs.Reserved.{available, childrenCount}
+use Rattle.reserved.specs.Reserved.{available, children_count}
 use Rattle.claims.specs.declared.Judged.{Judged}
 use Rattle.claims.specs.declared.Judged.TheVariants.{Sound, UnreadableReg, UnreadableRanges}
-use Rattle.claims.specs.Claims.{isVirt}
+use Rattle.claims.specs.Claims.{is_virt}
 
-abbrev pub isUnreadable : {A : Type 0} → Table A → Bool
-isUnreadable unreadable = true
-isUnreadable (rows l) = false
+abbrev pub is_unreadable : {A : Type 0} → Table A → Bool
+is_unreadable unreadable = true
+is_unreadable (rows l) = false
 
-abbrev pub hasEntry : Table Region → Bool
-hasEntry unreadable = false
-hasEntry (rows []) = false
-hasEntry (rows (r ∷ l)) = true
+abbrev pub has_entry : Table Region → Bool
+has_entry unreadable = false
+has_entry (rows []) = false
+has_entry (rows (r ∷ l)) = true
 
-abbrev pub inValue : {A : Type 0} → (List ℕ → A) → A → Option (List ℕ) → A
-inValue f missing nothing = missing
-inValue f missing (some v) = f v
+abbrev pub in_value : {A : Type 0} → (List ℕ → A) → A → Option (List ℕ) → A
+in_value f missing nothing = missing
+in_value f missing (some v) = f v
 
 -- a child with these properties: "a counted reserved child's nonempty `reg` is unreadable", or, of /soc, it has "a readable /soc entry"
-unfoldable pub childIs : Bool → CellCount → CellCount → List Property → Bool
-childIs true a c ps = available ps && inValue (λ v. isUnreadable (reg_of a c v)) false (value_of regName ps)
-childIs false a c ps = inValue (λ v. hasEntry (reg_of a c v)) false (value_of regName ps)
+unfoldable pub child_is : Bool → CellCount → CellCount → List Property → Bool
+child_is true a c ps = available ps && in_value (λ v. is_unreadable (reg_of a c v)) false (value_of reg_name ps)
+child_is false a c ps = in_value (λ v. has_entry (reg_of a c v)) false (value_of reg_name ps)
 
 -- some of these children is so
-unfoldable pub someKid : Bool → CellCount → CellCount → Nodes → Bool
-someKid reserved a c none = false
-someKid reserved a c (node q nm ps kids rest) = childIs reserved a c ps || someKid reserved a c rest
+unfoldable pub some_kid : Bool → CellCount → CellCount → Nodes → Bool
+some_kid reserved a c none = false
+some_kid reserved a c (node q nm ps kids rest) = child_is reserved a c ps || some_kid reserved a c rest
 
 -- 7: "a counted reserved child's nonempty `reg` is unreadable"
-unfoldable pub badReg : Nodes → Bool
-badReg t = go (underRoot reservedMemoryName t)
+unfoldable pub bad_reg : Nodes → Bool
+bad_reg t = go (under_root reserved_memory_name t)
   where
     go : Nodes → Bool
-    go s = childrenCount (propsOf t) (propsOf s) && someKid true (address_of (propsOf s)) (size_of (propsOf s)) (kidsOf s)
+    go s = children_count (props_of t) (props_of s) && some_kid true (address_of (props_of s)) (size_of (props_of s)) (kids_of s)
 
 -- 8: "a readable /soc entry meets an unreadable `ranges`"
-unfoldable pub badRanges : Nodes → Bool
-badRanges t = go (underRoot socName t)
+unfoldable pub bad_ranges : Nodes → Bool
+bad_ranges t = go (under_root soc_name t)
   where
     go : Nodes → Bool
     go s =
-        inValue (λ v. isUnreadable (rangesOf (address_of (propsOf s)) (address_of (propsOf t)) (size_of (propsOf s)) v)) false (value_of rangesName (propsOf s))
-        && someKid false (address_of (propsOf s)) (size_of (propsOf s)) (kidsOf s)
+        in_value (λ v. is_unreadable (ranges_of (address_of (props_of s)) (address_of (props_of t)) (size_of (props_of s)) v)) false (value_of ranges_name (props_of s))
+        && some_kid false (address_of (props_of s)) (size_of (props_of s)) (kids_of s)
 
 -- 7 before 8; where the two fixed ranges are all that a tree claims of devices, no soc window is read
-unfoldable pub judgedOf : Bool → Nodes → Judged
-judgedOf arm t = cond (badReg t) UnreadableReg (cond (isVirt arm t) Sound (cond (badRanges t) UnreadableRanges Sound))
+unfoldable pub judged_of : Bool → Nodes → Judged
+judged_of arm t = cond (bad_reg t) UnreadableReg (cond (is_virt arm t) Sound (cond (bad_ranges t) UnreadableRanges Sound))
 
 -- "Numbers a caller gets back"
-abbrev pub judgedNumber : Judged → ℕ
-judgedNumber Sound = 0
-judgedNumber UnreadableReg = 7
-judgedNumber UnreadableRanges = 8
+abbrev pub judged_number : Judged → ℕ
+judged_number Sound = 0
+judged_number UnreadableReg = 7
+judged_number UnreadableRanges = 8

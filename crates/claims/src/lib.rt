@@ -1,12 +1,12 @@
 // What a tree claims, child by child, and what it is refused for. The list as a whole is a definition: specs/Claims.antt.
 ghost use Rattle.std.specs.Prelude.{◌≡◌, []};
-ghost use Rattle.cells.specs.Rows.{rows, rangesOf};
-ghost use Rattle.nodes.specs.Nav.{propAt};
-ghost use Rattle.subtree.specs.Names.{sizeName, allocRangesName};
-ghost use Rattle.subtree.specs.Subtree.{nodeAt, at, rootAt, propsOf, Stands};
-ghost use Rattle.claims.specs.Claims.{landsBy, kindBy, isVirt};
-ghost use Rattle.claims.specs.Judging.{childIs, someKid, badReg, badRanges, judgedOf, judgedNumber};
-ghost use Rattle.claims.specs.Values.{childValue, dynamicAt};
+ghost use Rattle.cells.specs.Rows.{rows, ranges_of};
+ghost use Rattle.nodes.specs.Nav.{prop_at};
+ghost use Rattle.subtree.specs.Names.{size_name, alloc_ranges_name};
+ghost use Rattle.subtree.specs.Subtree.{node_at, at, root_at, props_of, Stands};
+ghost use Rattle.claims.specs.Claims.{lands_by, kind_by, is_virt};
+ghost use Rattle.claims.specs.Judging.{child_is, some_kid, bad_reg, bad_ranges, judged_of, judged_number};
+ghost use Rattle.claims.specs.Values.{child_value, dynamic_at};
 ghost use Rattle.claims.specs.declared.Way.TheVariants.{Reserve, Controllers};
 
 use cells::{CellCount, RangeRow, RegRow};
@@ -25,7 +25,7 @@ pub enum Way {
 impl Way {
     // The kind of what is claimed.
     pub fn kind(self) -> u64
-        ensures { result ≡ kindBy self }
+        ensures { result ≡ kind_by self }
     {
         match self {
             Way::Reserve => 3,
@@ -45,7 +45,7 @@ pub enum Judged {
 
 impl Judged {
     pub fn number(self) -> u8
-        ensures { result ≡ judgedNumber self }
+        ensures { result ≡ judged_number self }
     {
         match self {
             Judged::Sound => 0,
@@ -57,7 +57,7 @@ impl Judged {
 
 // A region of the root's child: there is no bus to go through, and so its end alone is looked at.
 fn at_root(address: u64, size: u64) -> Window
-    ensures { result ≡ landsBy Controllers (rows []) address size }
+    ensures { result ≡ lands_by Controllers (rows []) address size }
 {
     if size == 0 {
         return Window::To(address);
@@ -78,7 +78,7 @@ pub fn lands(
     address: u64,
     size: u64,
 ) -> Window
-    ensures { result ≡ landsBy way (rangesOf own parent length ranges.now) address size }
+    ensures { result ≡ lands_by way (ranges_of own parent length ranges.now) address size }
 {
     match way {
         Way::Reserve => Window::To(address),
@@ -87,7 +87,7 @@ pub fn lands(
     }
 }
 
-// The value of `alloc-ranges` of a dynamic reservation, where it leaves no choice.
+// The value of `alloc_ranges` of a dynamic reservation, where it leaves no choice.
 fn dynamic_value<'a>(
     structure: &'a [u8],
     strings: &'a [u8],
@@ -95,7 +95,7 @@ fn dynamic_value<'a>(
     address: CellCount,
     size: CellCount,
 ) -> Value
-    ensures { result ≡ dynamicAt structure.now address size (propAt structure.now strings.now child sizeName) (propAt structure.now strings.now child allocRangesName) }
+    ensures { result ≡ dynamic_at structure.now address size (prop_at structure.now strings.now child size_name) (prop_at structure.now strings.now child alloc_ranges_name) }
 {
     let Value::Here(at, len) = nodes::getprop(structure, strings, child, b"size") else {
         return Value::Missing;
@@ -122,7 +122,7 @@ fn reserved_value<'a>(
     address: CellCount,
     size: CellCount,
 ) -> Value
-    ensures { result ≡ childValue structure.now strings.now Reserve address size child }
+    ensures { result ≡ child_value structure.now strings.now Reserve address size child }
 {
     if !reserved::reserved_memory_node_is_available(structure, strings, child) {
         return Value::Missing;
@@ -142,7 +142,7 @@ pub fn child_value<'a>(
     size: CellCount,
     child: usize,
 ) -> Value
-    ensures { result ≡ childValue structure.now strings.now way address size child }
+    ensures { result ≡ child_value structure.now strings.now way address size child }
 {
     match way {
         Way::Reserve => reserved_value(structure, strings, child, address, size),
@@ -158,7 +158,7 @@ pub fn child_value<'a>(
 
 // Whether the tree is that of a virtual board whose devices the build knows.
 pub fn is_qemu_virt<'a>(structure: &'a [u8], strings: &'a [u8], arm: bool) -> bool
-    ensures { result ≡ isVirt arm (rootAt structure.now strings.now) }
+    ensures { result ≡ is_virt arm (root_at structure.now strings.now) }
 {
     if !arm {
         return false;
@@ -181,7 +181,7 @@ fn child_is<'a>(
     size: CellCount,
     reserved: bool,
 ) -> bool
-    ensures { result ≡ childIs reserved address size (propsOf (nodeAt structure.now strings.now child)) }
+    ensures { result ≡ child_is reserved address size (props_of (node_at structure.now strings.now child)) }
 {
     let Value::Here(at, len) = nodes::getprop(structure, strings, child, b"reg") else {
         return false;
@@ -214,7 +214,7 @@ fn some_child<'a>(
     reserved: bool,
 ) -> bool
     requires { Stands structure.now strings.now first }
-    ensures { result ≡ someKid reserved address size (at structure.now strings.now first) }
+    ensures { result ≡ some_kid reserved address size (at structure.now strings.now first) }
 {
     let mut child = first;
     loop {
@@ -230,7 +230,7 @@ fn some_child<'a>(
 
 // Whether a counted child of /reserved-memory has a `reg` that cannot be read.
 fn bad_reg<'a>(structure: &'a [u8], strings: &'a [u8], root: usize) -> bool
-    ensures { result ≡ badReg (nodeAt structure.now strings.now root) }
+    ensures { result ≡ bad_reg (node_at structure.now strings.now root) }
 {
     let Found::At(node) = nodes::subnode(structure, strings, root, b"reserved-memory") else {
         return false;
@@ -246,7 +246,7 @@ fn bad_reg<'a>(structure: &'a [u8], strings: &'a [u8], root: usize) -> bool
 
 // Whether an entry of /soc's children meets a `ranges` that cannot be read.
 fn bad_ranges<'a>(structure: &'a [u8], strings: &'a [u8], root: usize) -> bool
-    ensures { result ≡ badRanges (nodeAt structure.now strings.now root) }
+    ensures { result ≡ bad_ranges (node_at structure.now strings.now root) }
 {
     let Found::At(soc) = nodes::subnode(structure, strings, root, b"soc") else {
         return false;
@@ -269,7 +269,7 @@ fn bad_ranges<'a>(structure: &'a [u8], strings: &'a [u8], root: usize) -> bool
 
 // What the tree is refused for: 7 is judged before 8, and both before its first claim is registered.
 pub fn judge<'a>(structure: &'a [u8], strings: &'a [u8], arm: bool) -> Judged
-    ensures { result ≡ judgedOf arm (rootAt structure.now strings.now) }
+    ensures { result ≡ judged_of arm (root_at structure.now strings.now) }
 {
     let Found::At(root) = nodes::path_offset(structure, strings, b"/") else {
         return Judged::Sound;

@@ -15,44 +15,44 @@ use Rattle.areas.specs.declared.Limit.{Limit}
 use Rattle.areas.specs.declared.Built.{Built}
 use Rattle.areas.specs.declared.Built.TheVariants.{Done, TooManyAreas}
 use Rattle.areas.specs.Interval.{Interval}
-use Rattle.areas.specs.Areas.{areasOf}
-use Rattle.areas.specs.Table.{builtNumber, Form, answerFor, BuildsIn, numbers, answer_of, table_of, Builds}
+use Rattle.areas.specs.Areas.{areas_of}
+use Rattle.areas.specs.Table.{built_number, Form, answer_for, BuildsIn, numbers, answer_of, table_of, Builds}
 use Rattle.lent_areas.specs.declared.MemoryArea.{MemoryArea}
 use Rattle.lent_areas.specs.Row.{records, BuildsRow}
 use Rattle.demand3.specs.Refusal.{Answers}
 
 -- 3 is the number of one case, and 0 of the other
-pub built-names : Names builtNumber
-built-names = record { back = λ _. TooManyAreas; named = go }
+pub built_names : Names built_number
+built_names = record { back = λ _. TooManyAreas; named = go }
   where
-    go : (r : Built) → (builtNumber r ≡ 0) ⊎ (TooManyAreas ≡ r)
+    go : (r : Built) → (built_number r ≡ 0) ⊎ (TooManyAreas ≡ r)
     go (Done n) = inl refl
     go TooManyAreas = inr refl
 
 -- ── So many slots ──
 module _ (slots : ℕ) (areas : List Interval) where
-  many : (answerFor slots areas ≡ TooManyAreas) ↔ (slots < length areas)
+  many : (answer_for slots areas ≡ TooManyAreas) ↔ (slots < length areas)
   many = (go (leb (length areas) slots) refl, λ h. rw (lt-leb _ _ h))
     where
       go : (t : Bool) → leb (length areas) slots ≡ t → cond t (Done (length areas)) TooManyAreas ≡ TooManyAreas → slots < length areas
       go true e q = let z : ◌≡◌ {A = ℕ} 0 1 = cc in omega arith
       go false e q = leb-false _ _ e
 
-  number-3 : (builtNumber (answerFor slots areas) ≡ 3) ↔ (slots < length areas)
-  number-3 = given built-names TooManyAreas (λ e. omega arith) many
+  number_3 : (built_number (answer_for slots areas) ≡ 3) ↔ (slots < length areas)
+  number_3 = given built_names TooManyAreas (λ e. omega arith) many
 
-  number-0 : (builtNumber (answerFor slots areas) ≡ 0) ↔ (length areas ≤ slots)
-  number-0 = (go (leb (length areas) slots) refl, λ h. rw (le-leb _ _ h))
+  number_0 : (built_number (answer_for slots areas) ≡ 0) ↔ (length areas ≤ slots)
+  number_0 = (go (leb (length areas) slots) refl, λ h. rw (le-leb _ _ h))
     where
-      go : (t : Bool) → leb (length areas) slots ≡ t → builtNumber (cond t (Done (length areas)) TooManyAreas) ≡ 0 → length areas ≤ slots
+      go : (t : Bool) → leb (length areas) slots ≡ t → built_number (cond t (Done (length areas)) TooManyAreas) ≡ 0 → length areas ≤ slots
       go true e q = leb-true _ _ e
       go false e q = omega arith
 
 -- THEOREM, refusal 3 and what is written: in any form of slots
 pub answers : {A : Type 0} {f : Form A} {areas : List Interval} {l l' : List A} {r : Built} → BuildsIn f areas l l' r → Answers f areas l l' r
 answers {A} {f} {areas} {l} {l'} {r} b =
-    let three : (builtNumber r ≡ 3) ↔ (f.slots l < length areas) = rw b.answer (number-3 (f.slots l) areas) in
-    let zero : (builtNumber r ≡ 0) ↔ (length areas ≤ f.slots l) = rw b.answer (number-0 (f.slots l) areas) in
+    let three : (built_number r ≡ 3) ↔ (f.slots l < length areas) = rw b.answer (number_3 (f.slots l) areas) in
+    let zero : (built_number r ≡ 0) ↔ (length areas ≤ f.slots l) = rw b.answer (number_0 (f.slots l) areas) in
     record {
       refused = three;
       done = zero;
@@ -63,17 +63,17 @@ answers {A} {f} {areas} {l} {l'} {r} b =
 
 -- ── The two forms that there are, from what the contracts of the two `build` state ──
 module _ {p : ℕ} {m : MemoryMap} {low high : Limit} {r : Built} where
-  pub in-numbers : {l l' : List ℕ} → Builds p m low high l l' r → BuildsIn numbers (areasOf p low high m) l l' r
+  pub in_numbers : {l l' : List ℕ} → Builds p m low high l l' r → BuildsIn numbers (areas_of p low high m) l l' r
   unfolding answer_of table_of
-  in-numbers b = record { answer = b.answer; after = b.table }
+  in_numbers b = record { answer = b.answer; after = b.table }
 
-  pub in-records : {row row' : List MemoryArea} → BuildsRow p m low high row row' r → BuildsIn records (areasOf p low high m) row row' r
-  in-records b = record { answer = b.answer; after = b.areas }
+  pub in_records : {row row' : List MemoryArea} → BuildsRow p m low high row row' r → BuildsIn records (areas_of p low high m) row row' r
+  in_records b = record { answer = b.answer; after = b.areas }
 
   -- into lent numbers
-  pub build-answers : {l l' : List ℕ} → Builds p m low high l l' r → Answers numbers (areasOf p low high m) l l' r
-  build-answers b = answers (in-numbers b)
+  pub build_answers : {l l' : List ℕ} → Builds p m low high l l' r → Answers numbers (areas_of p low high m) l l' r
+  build_answers b = answers (in_numbers b)
 
   -- into a lent row of records
-  pub row-answers : {row row' : List MemoryArea} → BuildsRow p m low high row row' r → Answers records (areasOf p low high m) row row' r
-  row-answers b = answers (in-records b)
+  pub row_answers : {row row' : List MemoryArea} → BuildsRow p m low high row row' r → Answers records (areas_of p low high m) row row' r
+  row_answers b = answers (in_records b)

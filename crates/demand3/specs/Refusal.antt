@@ -3,16 +3,16 @@ use Rattle.std.specs.Prelude.{◌≡◌, List, ◌++◌, ◌↔◌, ◌≤◌, �
 use Rattle.areas.specs.declared.Built.{Built}
 use Rattle.areas.specs.declared.Built.TheVariants.{Done}
 use Rattle.areas.specs.Interval.{Interval}
-use Rattle.areas.specs.Table.{builtNumber, Form}
+use Rattle.areas.specs.Table.{built_number, Form}
 
 -- what a build of these areas into lent items l answers, where they are l' afterwards
 pub record Answers {A : Type 0} (f : Form A) (areas : List Interval) (l l' : List A) (r : Built) : Type 0 where
   -- 3: "Refused exactly when there are more areas than slots."
-  pub refused : (builtNumber r ≡ 3) ↔ (f.slots l < length areas)
+  pub refused : (built_number r ≡ 3) ↔ (f.slots l < length areas)
   -- "0 is done."
-  pub done : (builtNumber r ≡ 0) ↔ (length areas ≤ f.slots l)
+  pub done : (built_number r ≡ 0) ↔ (length areas ≤ f.slots l)
   -- "A refused .. build .. writes nothing."
-  pub nothing : builtNumber r ≡ 3 → l' ≡ l
+  pub nothing : built_number r ≡ 3 → l' ≡ l
   -- a build that is done counts the areas, and has written them; "all past the count is untouched"
-  pub count : builtNumber r ≡ 0 → r ≡ Done (length areas)
-  pub writes : builtNumber r ≡ 0 → l' ≡ f.written areas ++ drop (f.items (length areas)) l
+  pub count : built_number r ≡ 0 → r ≡ Done (length areas)
+  pub writes : built_number r ≡ 0 → l' ≡ f.written areas ++ drop (f.items (length areas)) l

@@ -9,22 +9,22 @@ use Rattle.entry.specs.Claim.{Claim, inward, outward}
 use Rattle.memory.specs.declared.MemoryMap.{MemoryMap}
 use Rattle.memory.specs.declared.Answer.TheVariants.{Done}
 use Rattle.memory.specs.Map.{blank}
-use Rattle.memory.specs.Run.{registeredAll}
+use Rattle.memory.specs.Run.{registered_all}
 use Rattle.runs.specs.Sets.{Some}
 use Rattle.areas.specs.declared.Limit.{Limit}
 use Rattle.areas.specs.Interval.{Interval}
-use Rattle.areas.specs.Areas.{or_else, limitOf, areasOf}
+use Rattle.areas.specs.Areas.{or_else, limit_of, areas_of}
 
 -- "If no call is refused": the run from the empty map, one registration after the other, is done
 abbrev pub Accepted : ℕ → List Claim → Type 0
-Accepted p cs = (registeredAll p blank cs).answer ≡ Done
+Accepted p cs = (registered_all p blank cs).answer ≡ Done
 
 -- the map after the run, and its finished areas
-abbrev pub mapAfter : ℕ → List Claim → MemoryMap
-mapAfter p cs = (registeredAll p blank cs).map
+abbrev pub map_after : ℕ → List Claim → MemoryMap
+map_after p cs = (registered_all p blank cs).map
 
-abbrev pub areasAfter : ℕ → Limit → Limit → List Claim → List Interval
-areasAfter p low high cs = areasOf p low high (mapAfter p cs)
+abbrev pub areas_after : ℕ → Limit → Limit → List Claim → List Interval
+areas_after p low high cs = areas_of p low high (map_after p cs)
 
 -- "inside some single Free registration rounded inward by itself"; "Size 0 .. register nothing"
 pub record FreeOver (p x : ℕ) (c : Claim) : Type 0 where
@@ -52,6 +52,6 @@ abbrev pub SameClaims : List Claim → List Claim → Type 0
 SameClaims cs ds = (c : Claim) → Memᴰ c cs ↔ Memᴰ c ds
 
 -- "under the same limits": two pairs that round to the same, as a missing low does with 0, and a missing high with any in the top page
--- (Demand.missing-low, missing-high)
+-- (Demand.missing_low, missing-high)
 abbrev pub SameLimits : ℕ → Limit → Limit → Limit → Limit → Type 0
-SameLimits p low high low' high' = limitOf p low high ≡ limitOf p low' high'
+SameLimits p low high low' high' = limit_of p low high ≡ limit_of p low' high'

@@ -4,16 +4,16 @@ use Rattle.page.specs.Round.{top, Aligned}
 use Rattle.entry.specs.Claim.{Claim}
 use Rattle.areas.specs.declared.Limit.{Limit}
 use Rattle.lent_areas.specs.declared.MemoryArea.{MemoryArea}
-use Rattle.lent_areas.specs.Row.{areaAt}
+use Rattle.lent_areas.specs.Row.{area_at}
 use Rattle.demand3.specs.Rule.{Rule}
 
 -- slot i of lent numbers: "A slot is a whole pair"
-abbrev pub numberSlot : List ℕ → ℕ → MemoryArea
-numberSlot l i = areaAt l i
+abbrev pub number_slot : List ℕ → ℕ → MemoryArea
+number_slot l i = area_at l i
 
 -- slot i of a lent row of area records
-abbrev pub recordSlot : List MemoryArea → ℕ → MemoryArea
-recordSlot row i = get_or row i (record { base = 0; size = 0 })
+abbrev pub record_slot : List MemoryArea → ℕ → MemoryArea
+record_slot row i = get_or row i (record { base = 0; size = 0 })
 
 -- the address x "lies in a listed area": in that of one of the first n slots
 pub record ListedIn (slot : ℕ → MemoryArea) (n x : ℕ) : Type 0 where

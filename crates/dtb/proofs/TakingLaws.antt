@@ -12,12 +12,12 @@ use Rattle.memory.specs.declared.MemoryMap.{MemoryMap}
 use Rattle.memory.specs.declared.Answer.TheVariants.{Done}
 use Rattle.memory.specs.declared.Registered.{Registered}
 use Rattle.memory.specs.Map.{answered, registered}
-use Rattle.memory.specs.Run.{isDone, registeredAll}
+use Rattle.memory.specs.Run.{is_done, registered_all}
 use Rattle.visit.specs.declared.Claimed.{Claimed}
 use Rattle.visit.specs.declared.Cursor.{Cursor}
 use Rattle.visit.specs.declared.Step.{Step}
 use Rattle.visit.specs.Steps.{claimed, step_of}
-use Rattle.visit.specs.Script.{claimsIn, Follows}
+use Rattle.visit.specs.Script.{claims_in, Follows}
 use Rattle.visit.proofs.StepLaws.{follows}
 
 -- where a step r, that came out as s, leads
@@ -26,8 +26,8 @@ pub went : (b n block : List ℕ) (arm : Bool) (c : Cursor) (r s : Step) → Sta
 went b n block arm c r s h e i = subst (Follows b n block arm c) (sym e ∙ i) (follows b n block arm c h)
 
 -- a claim as the step hands it over
-pub claim-back : (x : Claimed) (y : Claim) → x ≡ claimed y → claim x.base x.size x.kind ≡ y
-claim-back x y e = rw e refl
+pub claim_back : (x : Claimed) (y : Claim) → x ≡ claimed y → claim x.base x.size x.kind ≡ y
+claim_back x y e = rw e refl
 
 -- a step leaves less to do
 pub shorter : (l s : List (Option Claim)) (o : Option Claim) → l ≡ o ∷ s → length s < length l
@@ -35,23 +35,23 @@ shorter l s o e = rw e (omega arith)
 
 module _ (p : ℕ) (m : MemoryMap) (l : List (Option Claim)) where
   -- nothing is left
-  pub take-end : l ≡ [] → registeredAll p m (claimsIn l) ≡ answered m Done
-  unfolding registeredAll claimsIn
-  take-end e = rw e
+  pub take_end : l ≡ [] → registered_all p m (claims_in l) ≡ answered m Done
+  unfolding registered_all claims_in
+  take_end e = rw e
 
   module _ (s : List (Option Claim)) where
     -- a step without a claim
-    pub take-over : l ≡ nothing ∷ s → registeredAll p m (claimsIn l) ≡ registeredAll p m (claimsIn s)
-    unfolding claimsIn
-    take-over e = rw e
+    pub take_over : l ≡ nothing ∷ s → registered_all p m (claims_in l) ≡ registered_all p m (claims_in s)
+    unfolding claims_in
+    take_over e = rw e
 
     -- a claim that is registered, r being what that gives
     module _ (c : Claim) (r : Registered) (e : l ≡ some c ∷ s) (i : r ≡ registered p m c) where
-      pub take_done : isDone r.answer ≡ true → registeredAll p m (claimsIn l) ≡ registeredAll p r.map (claimsIn s)
-      unfolding registeredAll claimsIn
+      pub take_done : is_done r.answer ≡ true → registered_all p m (claims_in l) ≡ registered_all p r.map (claims_in s)
+      unfolding registered_all claims_in
       take_done a = rw (e, ← i, a)
 
       -- and one that is refused
-      pub take-refused : isDone r.answer ≡ false → registeredAll p m (claimsIn l) ≡ r
-      unfolding registeredAll claimsIn
-      take-refused a = rw (e, ← i, a)
+      pub take_refused : is_done r.answer ≡ false → registered_all p m (claims_in l) ≡ r
+      unfolding registered_all claims_in
+      take_refused a = rw (e, ← i, a)

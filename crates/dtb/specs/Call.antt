@@ -3,56 +3,56 @@
 use Rattle.std.specs.Prelude.{ℕ, List, Bool, cond}
 use Rattle.memory.specs.declared.MemoryMap.{MemoryMap}
 use Rattle.memory.specs.declared.Registered.{Registered}
-use Rattle.memory.specs.Run.{isDone, registeredAll}
+use Rattle.memory.specs.Run.{is_done, registered_all}
 use Rattle.fdt.specs.declared.Opened.{Opened}
 use Rattle.fdt.specs.declared.Opened.TheVariants.{NoTree, Tree, BadHeader as NoHeader, OverLimit as Over, BadStructure as NoStructure}
-use Rattle.fdt.specs.Header.{structureOf, stringsOf}
+use Rattle.fdt.specs.Header.{structure_of, strings_of}
 use Rattle.fdt.specs.Tree.{tree_of}
 use Rattle.fdt.specs.Opening.{opened_of}
-use Rattle.reservations.specs.Reservations.{blockIn, entriesOf}
+use Rattle.reservations.specs.Reservations.{block_in, entries_of}
 use Rattle.claims.specs.declared.Judged.{Judged}
 use Rattle.claims.specs.declared.Judged.TheVariants.{Sound, UnreadableReg as NoReg, UnreadableRanges as NoRanges}
 use Rattle.claims.specs.Claims.{claims_of}
-use Rattle.claims.specs.Judging.{judgedOf}
+use Rattle.claims.specs.Judging.{judged_of}
 use Rattle.dtb.specs.declared.TreeAnswer.{TreeAnswer}
 use Rattle.dtb.specs.declared.TreeAnswer.TheVariants.{Done, BadHeader, OverLimit, BadStructure, UnreadableReg, UnreadableRanges, MapFull}
 use Rattle.dtb.specs.declared.TreeRegistered.{TreeRegistered}
 
 -- "Numbers a caller gets back"
-abbrev pub treeNumber : TreeAnswer → ℕ
-treeNumber Done = 0
-treeNumber BadHeader = 4
-treeNumber OverLimit = 6
-treeNumber BadStructure = 5
-treeNumber UnreadableReg = 7
-treeNumber UnreadableRanges = 8
-treeNumber MapFull = 2
+abbrev pub tree_number : TreeAnswer → ℕ
+tree_number Done = 0
+tree_number BadHeader = 4
+tree_number OverLimit = 6
+tree_number BadStructure = 5
+tree_number UnreadableReg = 7
+tree_number UnreadableRanges = 8
+tree_number MapFull = 2
 
-abbrev pub treeAnswered : MemoryMap → TreeAnswer → TreeRegistered
-treeAnswered m a = record { map = m; answer = a }
+abbrev pub tree_answered : MemoryMap → TreeAnswer → TreeRegistered
+tree_answered m a = record { map = m; answer = a }
 
 -- the map with the claims, or the map as at the call: a claim's kind is always known, so what is refused is a full map
--- (ClaimKinds.claims-known, in tree_theorems)
-unfoldable pub settledTree : MemoryMap → Registered → TreeRegistered
-settledTree m r = cond (isDone r.answer) (treeAnswered r.map Done) (treeAnswered m MapFull)
+-- (ClaimKinds.claims_known, in tree_theorems)
+unfoldable pub settled_tree : MemoryMap → Registered → TreeRegistered
+settled_tree m r = cond (is_done r.answer) (tree_answered r.map Done) (tree_answered m MapFull)
 
 -- 7, then 8, then 2
-abbrev pub judgedCall : MemoryMap → Judged → Registered → TreeRegistered
-judgedCall m Sound r = settledTree m r
-judgedCall m NoReg r = treeAnswered m UnreadableReg
-judgedCall m NoRanges r = treeAnswered m UnreadableRanges
+abbrev pub judged_call : MemoryMap → Judged → Registered → TreeRegistered
+judged_call m Sound r = settled_tree m r
+judged_call m NoReg r = tree_answered m UnreadableReg
+judged_call m NoRanges r = tree_answered m UnreadableRanges
 
 module _ (p : ℕ) (m : MemoryMap) (s : List ℕ) (arm : Bool) where
   -- 4, 6, 5 by the reader; "A tree of 0 bytes is no tree."
-  abbrev pub openedCall : Opened → TreeRegistered
-  openedCall NoTree = treeAnswered m Done
-  openedCall NoHeader = treeAnswered m BadHeader
-  openedCall Over = treeAnswered m OverLimit
-  openedCall NoStructure = treeAnswered m BadStructure
-  openedCall (Tree k) =
-      judgedCall m (judgedOf arm (tree_of (structureOf s) (stringsOf s)))
-      (registeredAll p m (claims_of arm (entriesOf (blockIn s k)) (tree_of (structureOf s) (stringsOf s))))
+  abbrev pub opened_call : Opened → TreeRegistered
+  opened_call NoTree = tree_answered m Done
+  opened_call NoHeader = tree_answered m BadHeader
+  opened_call Over = tree_answered m OverLimit
+  opened_call NoStructure = tree_answered m BadStructure
+  opened_call (Tree k) =
+      judged_call m (judged_of arm (tree_of (structure_of s) (strings_of s)))
+      (registered_all p m (claims_of arm (entries_of (block_in s k)) (tree_of (structure_of s) (strings_of s))))
 
   -- exactly those claims, in that order; or a refusal that "gives back the map as at its call"
-  unfoldable pub treeRegistered : TreeRegistered
-  treeRegistered = openedCall (opened_of s)
+  unfoldable pub tree_registered : TreeRegistered
+  tree_registered = opened_call (opened_of s)

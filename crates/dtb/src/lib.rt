@@ -1,12 +1,12 @@
 // The tree's call: a tree's claims, judged and then registered in their order. The memory side of the kernel's src/dtb/mod.rs.
 ghost use Rattle.std.specs.Prelude.{◌≡◌};
-ghost use Rattle.memory.specs.Map.{mapOf, left};
+ghost use Rattle.memory.specs.Map.{map_of, left};
 ghost use Rattle.memory.specs.Made.{Made};
-ghost use Rattle.memory.specs.Run.{registeredAll};
-ghost use Rattle.reservations.specs.Reservations.{entriesOf};
-ghost use Rattle.subtree.specs.Subtree.{rootAt};
+ghost use Rattle.memory.specs.Run.{registered_all};
+ghost use Rattle.reservations.specs.Reservations.{entries_of};
+ghost use Rattle.subtree.specs.Subtree.{root_at};
 ghost use Rattle.claims.specs.Claims.{claims_of};
-ghost use Rattle.dtb.specs.Call.{treeNumber, treeAnswered, settledTree, treeRegistered};
+ghost use Rattle.dtb.specs.Call.{tree_number, tree_answered, settled_tree, tree_registered};
 
 use claims::Judged;
 use fdt::Opened;
@@ -27,7 +27,7 @@ pub enum TreeAnswer {
 
 impl TreeAnswer {
     pub fn number(self) -> u8
-        ensures { result ≡ treeNumber self }
+        ensures { result ≡ tree_number self }
     {
         match self {
             TreeAnswer::Done => 0,
@@ -60,8 +60,8 @@ fn register_claims_in<'a>(
     block: &'a [u8],
     arm: bool,
 ) -> Admitted
-    requires { Made 4096 (mapOf starts.old ends.old kinds.old size) }
-    ensures { left result starts.new ends.new kinds.new ≡ registeredAll 4096 (mapOf starts.old ends.old kinds.old size) (claims_of arm (entriesOf block.now) (rootAt structure.now strings.now)) }
+    requires { Made 4096 (map_of starts.old ends.old kinds.old size) }
+    ensures { left result starts.new ends.new kinds.new ≡ registered_all 4096 (map_of starts.old ends.old kinds.old size) (claims_of arm (entries_of block.now) (root_at structure.now strings.now)) }
 {
     let mut held = size;
     let mut cursor = visit::first_claim();
@@ -100,7 +100,7 @@ fn register_judged<'a>(
     arm: bool,
 ) -> TreeRegistered
     requires { Made 4096 map }
-    ensures { result ≡ settledTree map (registeredAll 4096 map (claims_of arm (entriesOf block.now) (rootAt structure.now strings.now))) }
+    ensures { result ≡ settled_tree map (registered_all 4096 map (claims_of arm (entries_of block.now) (root_at structure.now strings.now))) }
 {
     let mut starts = map.starts;
     let mut ends = map.ends;
@@ -136,7 +136,7 @@ fn register_judged<'a>(
 
 // The map as it came, with an answer.
 fn refused(map: MemoryMap, answer: TreeAnswer) -> TreeRegistered
-    ensures { result ≡ treeAnswered map answer }
+    ensures { result ≡ tree_answered map answer }
 {
     TreeRegistered { map, answer }
 }
@@ -144,7 +144,7 @@ fn refused(map: MemoryMap, answer: TreeAnswer) -> TreeRegistered
 // Registers what a tree claims, or refuses it and gives the map back as it came. 0 bytes are no tree.
 pub fn register_devicetree(map: MemoryMap, tree: &[u8], arm: bool) -> TreeRegistered
     requires { Made 4096 map }
-    ensures { result ≡ treeRegistered 4096 map tree.now arm }
+    ensures { result ≡ tree_registered 4096 map tree.now arm }
 {
     let blocks = match fdt::open_tree(tree) {
         Opened::NoTree => {

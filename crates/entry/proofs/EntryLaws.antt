@@ -25,9 +25,9 @@ meets a b = go (ltb (overlap a b).start (overlap a b).end) refl
     go false e = none (ltb-false _ _ e)
 
 -- an address is in the overlap exactly when it is in both
-pub overlap-has : (a b : MemoryEntry) (x : ℕ) → Has x (overlap a b) ↔ (Has x a × Has x b)
+pub overlap_has : (a b : MemoryEntry) (x : ℕ) → Has x (overlap a b) ↔ (Has x a × Has x b)
 unfolding overlap
-overlap-has a b x = (
+overlap_has a b x = (
   λ h. (record { from = omega (arith, h.from); to = omega (arith, h.to) }, record { from = omega (arith, h.from); to = omega (arith, h.to) }),
   λ h. record { from = omega (arith, h.0.from, h.1.from); to = omega (arith, h.0.to, h.1.to) },
 )
@@ -46,12 +46,12 @@ joins a b = go (leb a.start b.end) (leb b.start a.end) refl refl
     go true false e f = two (λ u. omega (arith, leb-false b.start a.end f, u.high))
     go false t e f = two (λ u. omega (arith, leb-false a.start b.end e, u.low))
 
-pub touch-joins : (a b : MemoryEntry) → Touch a b → Entry (union a b) ≡ join a b
+pub touch_joins : (a b : MemoryEntry) → Touch a b → Entry (union a b) ≡ join a b
 unfolding join
-touch-joins a b t = rw (le-leb _ _ t.low, le-leb _ _ t.high)
+touch_joins a b t = rw (le-leb _ _ t.low, le-leb _ _ t.high)
 
-pub gap-joins : (a b : MemoryEntry) → (Touch a b → ⊥) → Nothing ≡ join a b
-gap-joins a b n = go (join a b) (joins a b)
+pub gap_joins : (a b : MemoryEntry) → (Touch a b → ⊥) → Nothing ≡ join a b
+gap_joins a b n = go (join a b) (joins a b)
   where
     go : (r : FoundEntry) → Joins a b r → Nothing ≡ r
     go r (one t) = absurd (n t)
@@ -66,22 +66,22 @@ gap a b n = go (leb a.start b.end) (leb b.start a.end) refl refl
     go true false e f = inr (leb-false _ _ f)
     go false t e f = inl (leb-false _ _ e)
 
-pub touch-sym : (a b : MemoryEntry) → Touch a b → Touch b a
-touch-sym a b t = record { low = t.high; high = t.low }
+pub touch_sym : (a b : MemoryEntry) → Touch a b → Touch b a
+touch_sym a b t = record { low = t.high; high = t.low }
 
 -- what touches neither of two that touch one another, does not touch their union
-pub union-apart : (a b c : MemoryEntry) → Touch a b → c.start ≤ c.end → (Touch a c → ⊥) → (Touch b c → ⊥) → Touch (union a b) c → ⊥
+pub union_apart : (a b c : MemoryEntry) → Touch a b → c.start ≤ c.end → (Touch a c → ⊥) → (Touch b c → ⊥) → Touch (union a b) c → ⊥
 unfolding union
-union-apart a b c t h na nb u =
+union_apart a b c t h na nb u =
     ⊎_elim
     (λ x. ⊎_elim (λ y. omega (arith, t.low, t.high, u.low, u.high)) (λ y. omega (arith, t.low, t.high, u.low, u.high)) (gap b c nb))
     (λ x. ⊎_elim (λ y. omega (arith, t.low, t.high, u.low, u.high)) (λ y. omega (arith, t.low, t.high, u.low, u.high)) (gap b c nb))
     (gap a c na)
 
 -- the union of two that overlap or touch has the addresses of both, and no others
-pub union-has : (a b : MemoryEntry) (x : ℕ) → Touch a b → Has x (union a b) ↔ (Has x a ⊎ Has x b)
+pub union_has : (a b : MemoryEntry) (x : ℕ) → Touch a b → Has x (union a b) ↔ (Has x a ⊎ Has x b)
 unfolding union
-union-has a b x t = (
+union_has a b x t = (
   λ i. into i (leb a.start x) (leb a.end x) refl refl,
   ⊎_elim
       (λ i. record { from = omega (arith, i.from); to = omega (arith, i.to) })

@@ -50,38 +50,38 @@ reads n =
     unknown (none_of n a b c d e f g))))))))
 
 -- what is read is the kind that has the number
-pub known-number : (n : ℕ) (k : BootloaderMemoryKind) → kind_of n ≡ Known k → number_of k ≡ n
-known-number n k e = go (kind_of n) (reads n) e
+pub known_number : (n : ℕ) (k : BootloaderMemoryKind) → kind_of n ≡ Known k → number_of k ≡ n
+known_number n k e = go (kind_of n) (reads n) e
   where
     go : (r : KindRead) → Reads n r → r ≡ Known k → number_of k ≡ n
     go r (known j q) f = let same : j ≡ k = cc in rw (sym same) q
     go r (unknown q) f = absurd (let z : ◌≡◌ {A = ℕ} 0 1 = cc in omega arith)
 
 -- every kind is read from its number
-pub number-known : (k : BootloaderMemoryKind) → kind_of (number_of k) ≡ Known k
+pub number_known : (k : BootloaderMemoryKind) → kind_of (number_of k) ≡ Known k
 unfolding kind_of
-number-known Null = refl
-number-known Free = refl
-number-known Reclaim = refl
-number-known Reserved = refl
-number-known Kernel = refl
-number-known Device = refl
-number-known IdentityMap = refl
+number_known Null = refl
+number_known Free = refl
+number_known Reclaim = refl
+number_known Reserved = refl
+number_known Kernel = refl
+number_known Device = refl
+number_known IdentityMap = refl
 
 pub known_at : (k : BootloaderMemoryKind) (n : ℕ) → n ≡ number_of k → Known k ≡ kind_of n
-known_at k n e = rw (e, number-known k)
+known_at k n e = rw (e, number_known k)
 
 -- a number that no kind has is read as none
-pub unknown-at : (n : ℕ) → (IsKind n → ⊥) → Unknown ≡ kind_of n
-unknown-at n f = go (kind_of n) (reads n)
+pub unknown_at : (n : ℕ) → (IsKind n → ⊥) → Unknown ≡ kind_of n
+unknown_at n f = go (kind_of n) (reads n)
   where
     go : (r : KindRead) → Reads n r → Unknown ≡ r
     go r (known k q) = absurd (f (record { kind = k; number = q }))
     go r (unknown q) = refl
 
 -- and only such a number is
-pub unknown-none : (n : ℕ) → kind_of n ≡ Unknown → IsKind n → ⊥
-unknown-none n e i =
-    let k : kind_of n ≡ Known i.kind = rw (sym i.number) (number-known i.kind) in
+pub unknown_none : (n : ℕ) → kind_of n ≡ Unknown → IsKind n → ⊥
+unknown_none n e i =
+    let k : kind_of n ≡ Known i.kind = rw (sym i.number) (number_known i.kind) in
     let z : ◌≡◌ {A = ℕ} 0 1 = cc in
     omega arith

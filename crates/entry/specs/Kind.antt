@@ -20,7 +20,7 @@ pub record IsKind (n : ℕ) : Type 0 where
   pub kind : BootloaderMemoryKind
   pub number : number_of kind ≡ n
 
--- the kind that has the number, where one has it. KindLaws.known-number, number-known and unknown-none tie it to number_of
+-- the kind that has the number, where one has it. KindLaws.known_number, number-known and unknown-none tie it to number_of
 unfoldable pub kind_of : ℕ → KindRead
 kind_of n =
     cond (eqb n 0) (Known Null)

@@ -9,27 +9,27 @@ use mathlib.Core.Bool.{Bool, true, false, ◌&&◌}
 use lib.ListN.{length, get_or, take, drop}
 use lib.Dec.{leb, eqb}
 use borrow.Author.Tests.{eq-eqb, le-leb, leb-true, eqb-true}
-use Rattle.fdt.specs.Header.{magic, totalsize, off-dt-struct, off-dt-strings, version, last-comp-version, size-dt-struct, size-dt-strings, GoodHeader, goodHeader, structureOf, stringsOf}
-use Rattle.words.proofs.BytesLaws.{never, part-is, part_length, part-byte}
+use Rattle.fdt.specs.Header.{magic, totalsize, off_dt_struct, off_dt_strings, version, last_comp_version, size_dt_struct, size_dt_strings, GoodHeader, good_header, structure_of, strings_of}
+use Rattle.words.proofs.BytesLaws.{never, part_is, part_length, part_byte}
 
 both : (x y : Bool) → (x && y) ≡ true → (x ≡ true) × (y ≡ true)
 both true y h = (refl, h)
 both false y h = never (cc)
 
 module _ (s : List ℕ) where
-  to-good : goodHeader s ≡ true → GoodHeader s
-  unfolding goodHeader
-  to-good h =
+  to_good : good_header s ≡ true → GoodHeader s
+  unfolding good_header
+  to_good h =
       let a = both (leb 40 (length s)) _ h in
       let b = both (eqb (magic s) 0xd00dfeed) _ a.1 in
       let c = both (leb 40 (totalsize s)) _ b.1 in
       let d = both (leb (totalsize s) (length s)) _ c.1 in
       let e = both (leb 17 (version s)) _ d.1 in
-      let f = both (leb (last-comp-version s) 17) _ e.1 in
-      let g = both (leb 40 (off-dt-struct s)) _ f.1 in
-      let i = both (leb 40 (off-dt-strings s)) _ g.1 in
-      let j = both (leb (off-dt-struct s + size-dt-struct s) (totalsize s)) _ i.1 in
-      let k = both (leb (off-dt-strings s + size-dt-strings s) (totalsize s)) _ j.1 in
+      let f = both (leb (last_comp_version s) 17) _ e.1 in
+      let g = both (leb 40 (off_dt_struct s)) _ f.1 in
+      let i = both (leb 40 (off_dt_strings s)) _ g.1 in
+      let j = both (leb (off_dt_struct s + size_dt_struct s) (totalsize s)) _ i.1 in
+      let k = both (leb (off_dt_strings s + size_dt_strings s) (totalsize s)) _ j.1 in
       record {
         long = leb-true _ _ a.0;
         marked = eqb-true _ _ b.0;
@@ -37,59 +37,59 @@ module _ (s : List ℕ) where
         whole = leb-true _ _ d.0;
         recent = leb-true _ _ e.0;
         compatible = leb-true _ _ f.0;
-        structFrom = leb-true _ _ g.0;
-        stringsFrom = leb-true _ _ i.0;
-        structIn = leb-true _ _ j.0;
-        stringsIn = leb-true _ _ k.0;
+        struct_from = leb-true _ _ g.0;
+        strings_from = leb-true _ _ i.0;
+        struct_in = leb-true _ _ j.0;
+        strings_in = leb-true _ _ k.0;
         aligned = eqb-true _ _ k.1;
       }
 
   -- where all else is good, the alignment decides
-  pub aligned-decides : 40 ≤ length s → magic s ≡ 0xd00dfeed → 40 ≤ totalsize s → totalsize s ≤ length s → 17 ≤ version s → last-comp-version s ≤ 17
-      → 40 ≤ off-dt-struct s → 40 ≤ off-dt-strings s → off-dt-struct s + size-dt-struct s ≤ totalsize s → off-dt-strings s + size-dt-strings s ≤ totalsize s
-      → eqb (off-dt-struct s % 4) 0 ≡ goodHeader s
-  unfolding goodHeader
-  aligned-decides a b c d e f g h i j =
+  pub aligned_decides : 40 ≤ length s → magic s ≡ 0xd00dfeed → 40 ≤ totalsize s → totalsize s ≤ length s → 17 ≤ version s → last_comp_version s ≤ 17
+      → 40 ≤ off_dt_struct s → 40 ≤ off_dt_strings s → off_dt_struct s + size_dt_struct s ≤ totalsize s → off_dt_strings s + size_dt_strings s ≤ totalsize s
+      → eqb (off_dt_struct s % 4) 0 ≡ good_header s
+  unfolding good_header
+  aligned_decides a b c d e f g h i j =
       rw (le-leb _ _ a, eq-eqb _ _ b, le-leb _ _ c, le-leb _ _ d, le-leb _ _ e, le-leb _ _ f, le-leb _ _ g, le-leb _ _ h, le-leb _ _ i, le-leb _ _ j)
 
-  from-good : GoodHeader s → goodHeader s ≡ true
-  from-good g =
-      rw (← aligned-decides g.long g.marked g.some g.whole g.recent g.compatible g.structFrom g.stringsFrom g.structIn g.stringsIn)
+  from_good : GoodHeader s → good_header s ≡ true
+  from_good g =
+      rw (← aligned_decides g.long g.marked g.some g.whole g.recent g.compatible g.struct_from g.strings_from g.struct_in g.strings_in)
       (eq-eqb _ _ g.aligned)
 
   -- THE TEST
-  pub good-header : (goodHeader s ≡ true) ↔ GoodHeader s
-  good-header = (to-good, from-good)
+  pub good_header_lem : (good_header s ≡ true) ↔ GoodHeader s
+  good_header_lem = (to_good, from_good)
 
-  pub bad-header : (GoodHeader s → ⊥) → false ≡ goodHeader s
-  bad-header n = go (goodHeader s) refl
+  pub bad_header : (GoodHeader s → ⊥) → false ≡ good_header s
+  bad_header n = go (good_header s) refl
     where
-      go : (t : Bool) → goodHeader s ≡ t → false ≡ goodHeader s
-      go true h = absurd (n (to-good h))
+      go : (t : Bool) → good_header s ≡ t → false ≡ good_header s
+      go true h = absurd (n (to_good h))
       go false h = sym h
 
   -- the blocks of a good header
   module _ (g : GoodHeader s) where
-    struct-fits : off-dt-struct s + size-dt-struct s ≤ length s
-    struct-fits = omega arith
+    struct_fits : off_dt_struct s + size_dt_struct s ≤ length s
+    struct_fits = omega arith
 
-    strings-fit : off-dt-strings s + size-dt-strings s ≤ length s
-    strings-fit = omega arith
+    strings_fit : off_dt_strings s + size_dt_strings s ≤ length s
+    strings_fit = omega arith
 
-    pub structure-is : structureOf s ≡ take (size-dt-struct s) (drop (off-dt-struct s) s)
-    structure-is = part-is s _ _ struct-fits
+    pub structure_is : structure_of s ≡ take (size_dt_struct s) (drop (off_dt_struct s) s)
+    structure_is = part_is s _ _ struct_fits
 
-    pub structure-length : length (structureOf s) ≡ size-dt-struct s
-    structure-length = part_length s _ _ struct-fits
+    pub structure_length : length (structure_of s) ≡ size_dt_struct s
+    structure_length = part_length s _ _ struct_fits
 
-    pub structure-at : (i : ℕ) → i < size-dt-struct s → get_or (structureOf s) i 0 ≡ get_or s (off-dt-struct s + i) 0
-    structure-at = part-byte s _ _ struct-fits
+    pub structure_at_lem : (i : ℕ) → i < size_dt_struct s → get_or (structure_of s) i 0 ≡ get_or s (off_dt_struct s + i) 0
+    structure_at_lem = part_byte s _ _ struct_fits
 
-    pub strings-are : stringsOf s ≡ take (size-dt-strings s) (drop (off-dt-strings s) s)
-    strings-are = part-is s _ _ strings-fit
+    pub strings_are : strings_of s ≡ take (size_dt_strings s) (drop (off_dt_strings s) s)
+    strings_are = part_is s _ _ strings_fit
 
-    pub strings-length : length (stringsOf s) ≡ size-dt-strings s
-    strings-length = part_length s _ _ strings-fit
+    pub strings_length : length (strings_of s) ≡ size_dt_strings s
+    strings_length = part_length s _ _ strings_fit
 
-    pub strings-at : (i : ℕ) → i < size-dt-strings s → get_or (stringsOf s) i 0 ≡ get_or s (off-dt-strings s + i) 0
-    strings-at = part-byte s _ _ strings-fit
+    pub strings_at : (i : ℕ) → i < size_dt_strings s → get_or (strings_of s) i 0 ≡ get_or s (off_dt_strings s + i) 0
+    strings_at = part_byte s _ _ strings_fit

@@ -1,7 +1,7 @@
 -- The tree as data, and the structure block as the sequence of tokens that the tree is written in: Specification, section 5.4.
 use Rattle.std.specs.Prelude.{ℕ, zero, suc, ◌+◌, max, List, [], ◌∷◌, length}
 use Rattle.words.specs.Bytes.{bytes}
-use Rattle.fdt.specs.Token.{tokAt}
+use Rattle.fdt.specs.Token.{tok_at}
 use Rattle.fdt.specs.declared.Token.{Token}
 use Rattle.fdt.specs.declared.Token.TheVariants.{Bad, Nop, Begin, EndNode, Prop, Fin}
 
@@ -36,14 +36,14 @@ pub data Tok : Type 0 where
   bad : Tok
 
 -- properties, and then r
-abbrev pub flatP : List Property → List Tok → List Tok
-flatP [] r = r
-flatP (p ∷ ps) r = prop p ∷ flatP ps r
+abbrev pub flat_p : List Property → List Tok → List Tok
+flat_p [] r = r
+flat_p (p ∷ ps) r = prop p ∷ flat_p ps r
 
 -- nodes, and then r: FDT_BEGIN_NODE with the name, the properties, the children, FDT_END_NODE
-abbrev pub flatK : Nodes → List Tok → List Tok
-flatK none r = r
-flatK (node at name ps kids rest) r = begin at name ∷ flatP ps (flatK kids (ended ∷ flatK rest r))
+abbrev pub flat_k : Nodes → List Tok → List Tok
+flat_k none r = r
+flat_k (node at name ps kids rest) r = begin at name ∷ flat_p ps (flat_k kids (ended ∷ flat_k rest r))
 
 -- a token read at p, with what it carries, and then what k reads at the place after it
 abbrev pub taken : List ℕ → List ℕ → ℕ → Token → (ℕ → List Tok) → List Tok
@@ -57,11 +57,11 @@ taken b n p Fin k = fin ∷ []
 -- at most f tokens from p on
 unfoldable pub lex : ℕ → List ℕ → List ℕ → ℕ → List Tok
 lex zero b n p = bad ∷ []
-lex (suc f) b n p = taken b n p (tokAt b n p) (λ q. lex f b n q)
+lex (suc f) b n p = taken b n p (tok_at b n p) (λ q. lex f b n q)
 
 -- the tokens from p on, up to FDT_END or to what is no token
-unfoldable pub lexAt : List ℕ → List ℕ → ℕ → List Tok
-lexAt b n p = lex (suc (length b)) b n p
+unfoldable pub lex_at : List ℕ → List ℕ → ℕ → List Tok
+lex_at b n p = lex (suc (length b)) b n p
 
 -- ── The tree read back from its tokens, from the last to the first ──
 
@@ -98,4 +98,4 @@ top (l ∷ ls) = l.lkids
 
 -- the tree of a structure block and a strings block. Of blocks that hold one: tree-is, in the crate grammar, says which it is
 unfoldable pub tree_of : List ℕ → List ℕ → Nodes
-tree_of b n = top (levels (lexAt b n 0))
+tree_of b n = top (levels (lex_at b n 0))

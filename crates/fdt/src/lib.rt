@@ -1,9 +1,9 @@
 // Opening a flattened devicetree: which bytes are a tree, and which tree. Devicetree Specification v0.4, chapter 5.
 ghost use Rattle.std.specs.Prelude.{◌≡◌, ◌+◌, ◌≤◌, ◌<◌, length};
-ghost use Rattle.fdt.specs.Header.{goodHeader};
-ghost use Rattle.fdt.specs.Token.{propAt, tokAt};
-ghost use Rattle.fdt.specs.Walk.{beginStep, step_of, walked};
-ghost use Rattle.fdt.specs.Opening.{openedNumber, blocksOf, opened_of};
+ghost use Rattle.fdt.specs.Header.{good_header};
+ghost use Rattle.fdt.specs.Token.{prop_at, tok_at};
+ghost use Rattle.fdt.specs.Walk.{begin_step, step_of, walked};
+ghost use Rattle.fdt.specs.Opening.{opened_number, blocks_of, opened_of};
 
 // One token of the structure block, with the place of what follows it.
 #[derive(Drop)]
@@ -70,7 +70,7 @@ pub enum Opened {
 
 impl Opened {
     pub fn number(self) -> u8
-        ensures { result ≡ openedNumber self }
+        ensures { result ≡ opened_number self }
     {
         match self {
             Opened::NoTree => 0,
@@ -85,7 +85,7 @@ impl Opened {
 // A property token at p, of which the structure block has the four bytes.
 fn prop_at<'a>(structure: &'a [u8], strings: &'a [u8], p: usize) -> Token
     requires { p + 4 ≤ length structure.now }
-    ensures { result ≡ propAt structure.now strings.now p }
+    ensures { result ≡ prop_at structure.now strings.now p }
 {
     let left = structure.len() - p;
     if left < 12 {
@@ -105,7 +105,7 @@ fn prop_at<'a>(structure: &'a [u8], strings: &'a [u8], p: usize) -> Token
 
 // The token at p.
 pub fn token_at<'a>(structure: &'a [u8], strings: &'a [u8], p: usize) -> Token
-    ensures { result ≡ tokAt structure.now strings.now p }
+    ensures { result ≡ tok_at structure.now strings.now p }
 {
     if structure.len() < 4 {
         return Token::Bad;
@@ -136,7 +136,7 @@ pub fn token_at<'a>(structure: &'a [u8], strings: &'a [u8], p: usize) -> Token
 
 // A node begins, with a name of len bytes.
 fn begun(st: State, len: usize, next: usize) -> Step
-    ensures { result ≡ beginStep st len next }
+    ensures { result ≡ begin_step st len next }
 {
     let depth = st.depth;
     let nodes = st.nodes;
@@ -243,7 +243,7 @@ fn walk<'a>(structure: &'a [u8], strings: &'a [u8]) -> Verdict
 
 // Whether the header is good.
 fn good_header(s: &[u8]) -> bool
-    ensures { result ≡ goodHeader s.now }
+    ensures { result ≡ good_header s.now }
 {
     if s.len() < 40 {
         return false;
@@ -283,7 +283,7 @@ fn good_header(s: &[u8]) -> bool
 
 // The blocks of a good header.
 fn blocks_of(s: &[u8]) -> Blocks
-    ensures { result ≡ blocksOf s.now }
+    ensures { result ≡ blocks_of s.now }
 {
     let structure = Block {
         at: words::be32(s, 8),

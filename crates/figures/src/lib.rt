@@ -1,11 +1,11 @@
 // Numbers as text, put into a lent buffer: decimal digits, 16 hex digits, and a word with a number behind it. What has no room from its
 // place on is not put at all, so that no function here asks anything of its caller.
-ghost use Rattle.figures.specs.Figures.{decimalText, hexText, Labelled};
+ghost use Rattle.figures.specs.Figures.{decimal_text, hex_text, Labelled};
 ghost use Rattle.pen.specs.Writing.{Put};
 
 // A number's decimal digits.
 pub fn put_decimal(out: &mut [u8], at: usize, n: u64) -> usize
-    ensures { Put out.old at (decimalText n) out.new result }
+    ensures { Put out.old at (decimal_text n) out.new result }
 {
     let mut digits = [0u8; 20];
     let k = io::decimal(n, &mut digits);
@@ -14,7 +14,7 @@ pub fn put_decimal(out: &mut [u8], at: usize, n: u64) -> usize
 
 // A number's 16 hex digits.
 pub fn put_hex(out: &mut [u8], at: usize, n: u64) -> usize
-    ensures { Put out.old at (hexText n) out.new result }
+    ensures { Put out.old at (hex_text n) out.new result }
 {
     let mut digits = [0u8; 16];
     let k = io::hex(n, 16, &mut digits);

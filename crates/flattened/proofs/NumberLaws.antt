@@ -5,9 +5,9 @@ use native.Mathlib.Omega.{arith}
 use mathlib.Core.List.{List, [], ◌∷◌, ◌++◌, append_assoc}
 use lib.ListN.{length, get_or, take, drop, length-append, length-replicate, get_or-append}
 use lib.Seq.{get_or-append-add, get_or-append_seam, take-append_seam, drop-append-add, take_at, drop_at}
-use Rattle.words.specs.Bytes.{word, double, bytes, stringEnd, align4}
-use Rattle.words.proofs.BytesLaws.{first-only}
-use Rattle.pen.proofs.LengthLaws.{bytes4-length, bytes8-length}
+use Rattle.words.specs.Bytes.{word, double, bytes, string_end, align4}
+use Rattle.words.proofs.BytesLaws.{first_only}
+use Rattle.pen.proofs.LengthLaws.{bytes4_length, bytes8_length}
 use Rattle.pen.specs.Numbers.{bytes4, bytes8, padding}
 use Rattle.flattened.specs.Parts.{NoZero}
 
@@ -39,32 +39,32 @@ word_at pre rest w p e h =
     rw (e1, e2, e3) (rw e0 (rw (get_or-append-add pre l 0 0, get_or-append-add pre l 1 0, get_or-append-add pre l 2 0, get_or-append-add pre l 3 0) (join32 w h)))
 
 -- the same of eight bytes
-pub double-at : (pre rest : List ℕ) (w p : ℕ) → length pre ≡ p → w < 18446744073709551616 → double (pre ++ (bytes8 w ++ rest)) p ≡ w
+pub double_at : (pre rest : List ℕ) (w p : ℕ) → length pre ≡ p → w < 18446744073709551616 → double (pre ++ (bytes8 w ++ rest)) p ≡ w
 unfolding double bytes8
-double-at pre rest w p e h =
+double_at pre rest w p e h =
     let q : pre ++ ((bytes4 (w / 4294967296) ++ bytes4 (w % 4294967296)) ++ rest) ≡ pre ++ (bytes4 (w / 4294967296) ++ (bytes4 (w % 4294967296) ++ rest)) = simp append_assoc in
     let r : pre ++ (bytes4 (w / 4294967296) ++ (bytes4 (w % 4294967296) ++ rest)) ≡ (pre ++ bytes4 (w / 4294967296)) ++ (bytes4 (w % 4294967296) ++ rest) = simp append_assoc in
-    let l : length (pre ++ bytes4 (w / 4294967296)) ≡ p + 4 = length-append pre (bytes4 (w / 4294967296)) ∙ omega (arith, bytes4-length (w / 4294967296)) in
+    let l : length (pre ++ bytes4 (w / 4294967296)) ≡ p + 4 = length-append pre (bytes4 (w / 4294967296)) ∙ omega (arith, bytes4_length (w / 4294967296)) in
     let u : word (pre ++ ((bytes4 (w / 4294967296) ++ bytes4 (w % 4294967296)) ++ rest)) p ≡ w / 4294967296 =
     ap (λ (s : List ℕ). word s p) q ∙ word_at pre (bytes4 (w % 4294967296) ++ rest) (w / 4294967296) p e (omega arith) in
     let v : word (pre ++ ((bytes4 (w / 4294967296) ++ bytes4 (w % 4294967296)) ++ rest)) (p + 4) ≡ w % 4294967296 =
     ap (λ (s : List ℕ). word s (p + 4)) (q ∙ r) ∙ word_at (pre ++ bytes4 (w / 4294967296)) rest (w % 4294967296) (p + 4) l (omega arith) in
     rw (u, v) (omega arith)
 
-pub padding-length : (n : ℕ) → length (padding n) ≡ align4 n - n
+pub padding_length : (n : ℕ) → length (padding n) ≡ align4 n - n
 unfolding padding
-padding-length n = length-replicate (align4 n - n) 0
+padding_length n = length-replicate (align4 n - n) 0
 
 -- bytes that stand after pre
-pub bytes-at : (pre mid rest : List ℕ) (p q : ℕ) → length pre ≡ p → q ≡ p + length mid → bytes (pre ++ (mid ++ rest)) p q ≡ mid
-bytes-at pre mid rest p q e f =
+pub bytes_at : (pre mid rest : List ℕ) (p q : ℕ) → length pre ≡ p → q ≡ p + length mid → bytes (pre ++ (mid ++ rest)) p q ≡ mid
+bytes_at pre mid rest p q e f =
     let g : q - p ≡ length mid = omega arith in
     rw (drop_at pre (mid ++ rest) p e, g, take-append_seam mid rest)
 
 -- a name without a zero byte that stands after pre, with its zero byte, ends there
-pub string-at : (pre name rest : List ℕ) (p : ℕ) → length pre ≡ p → NoZero name → stringEnd (pre ++ (name ++ (0 ∷ rest))) p ≡ p + length name
-string-at pre name rest p e z =
-    sym (first-only 0 (pre ++ (name ++ (0 ∷ rest))) p (p + length name) (omega arith) (omega (arith, long, length-append name (0 ∷ rest))) before (λ u. here))
+pub string_at_lem : (pre name rest : List ℕ) (p : ℕ) → length pre ≡ p → NoZero name → string_end (pre ++ (name ++ (0 ∷ rest))) p ≡ p + length name
+string_at_lem pre name rest p e z =
+    sym (first_only 0 (pre ++ (name ++ (0 ∷ rest))) p (p + length name) (omega arith) (omega (arith, long, length-append name (0 ∷ rest))) before (λ u. here))
   where
     long : length (pre ++ (name ++ (0 ∷ rest))) ≡ p + length (name ++ (0 ∷ rest))
     long = length-append pre (name ++ (0 ∷ rest)) ∙ ap (λ (x : ℕ). x + length (name ++ (0 ∷ rest))) e

@@ -5,55 +5,55 @@ use Prim.Native.Nat.{ℕ, suc, ◌+◌, ◌≤◌}
 use native.Mathlib.Omega.{arith}
 use mathlib.Core.Bool.{false}
 use mathlib.Core.List.{List, [], ◌∷◌}
-use Rattle.fdt.specs.Tree.{Nodes, none, node, Tok, fin, flatK, Level, levels}
+use Rattle.fdt.specs.Tree.{Nodes, none, node, Tok, fin, flat_k, Level, levels}
 use Rattle.fdt.specs.declared.Verdict.TheVariants.{Accepted}
-use Rattle.grammar.proofs.TreeLaws.{runL, tree-accepted, levels-tree}
-use Rattle.flattened.specs.Parts.{Part, begins, partSize, partsToks}
-use Rattle.flattened.specs.Forest.{NamedValue, Forest, bare, tree, treeParts, nodesOf, levelsOf, bareK, propsSize, forestSize, placedP, placedK}
-use Rattle.flattened.proofs.ForestLaws.{forest-toks, bare-forest, count-forest, height-forest}
+use Rattle.grammar.proofs.TreeLaws.{run_l, tree_accepted, levels_tree}
+use Rattle.flattened.specs.Parts.{Part, begins, part_size, parts_toks}
+use Rattle.flattened.specs.Forest.{NamedValue, Forest, bare, tree, tree_parts, nodes_of, levels_of, bare_k, props_size, forest_size, placed_p, placed_k}
+use Rattle.flattened.proofs.ForestLaws.{forest_toks, bare_forest, count_forest, height_forest}
 
 -- ── One tree ──
-first-kids : List Level → Nodes
-first-kids [] = none
-first-kids (l ∷ ls) = l.lkids
+first_kids : List Level → Nodes
+first_kids [] = none
+first_kids (l ∷ ls) = l.lkids
 
-flat-one : (t u : Nodes) → flatK t (fin ∷ []) ≡ flatK u (fin ∷ []) → t ≡ u
-unfolding first-kids
-flat-one t u e = ap first-kids (sym (levels-tree t) ∙ ap levels e ∙ levels-tree u)
+flat_one : (t u : Nodes) → flat_k t (fin ∷ []) ≡ flat_k u (fin ∷ []) → t ≡ u
+unfolding first_kids
+flat_one t u e = ap first_kids (sym (levels_tree t) ∙ ap levels e ∙ levels_tree u)
 
-kids-of : Forest → Forest
-kids-of bare = bare
-kids-of (tree name ps kids rest) = kids
+kids_of_lem : Forest → Forest
+kids_of_lem bare = bare
+kids_of_lem (tree name ps kids rest) = kids
 
-props-of : Forest → List NamedValue
-props-of bare = []
-props-of (tree name ps kids rest) = ps
+props_of_lem : Forest → List NamedValue
+props_of_lem bare = []
+props_of_lem (tree name ps kids rest) = ps
 
-module _ (ps ps' : List NamedValue) (kids kids' : Forest) (e : treeParts ps kids ≡ treeParts ps' kids') where
-  whole-one : tree [] ps kids bare ≡ tree [] ps' kids' bare
-  unfolding partsToks
-  whole-one =
+module _ (ps ps' : List NamedValue) (kids kids' : Forest) (e : tree_parts ps kids ≡ tree_parts ps' kids') where
+  whole_one : tree [] ps kids bare ≡ tree [] ps' kids' bare
+  unfolding parts_toks
+  whole_one =
       let f = tree [] ps kids bare in
       let g = tree [] ps' kids' bare in
-      sym (bare-forest f 0)
-      ∙ ap bareK (flat-one (placedK 0 f) (placedK 0 g) (sym (forest-toks f 0 []) ∙ ap (λ (xs : List Part). partsToks 0 xs) e ∙ forest-toks g 0 []))
-      ∙ bare-forest g 0
+      sym (bare_forest f 0)
+      ∙ ap bare_k (flat_one (placed_k 0 f) (placed_k 0 g) (sym (forest_toks f 0 []) ∙ ap (λ (xs : List Part). parts_toks 0 xs) e ∙ forest_toks g 0 []))
+      ∙ bare_forest g 0
 
-  pub one-kids : kids ≡ kids'
-  unfolding kids-of
-  one-kids = ap kids-of whole-one
+  pub one_kids : kids ≡ kids'
+  unfolding kids_of_lem
+  one_kids = ap kids_of_lem whole_one
 
-  pub one-props : ps ≡ ps'
-  unfolding props-of
-  one-props = ap props-of whole-one
+  pub one_props : ps ≡ ps'
+  unfolding props_of_lem
+  one_props = ap props_of_lem whole_one
 
 -- ── The walk accepts the parts of a tree ──
-pub tree-accepts : (lv nd : ℕ) (ps : List NamedValue) (kids : Forest) → suc (levelsOf kids) ≤ lv → suc (nodesOf kids) ≤ nd
-    → runL lv nd (partsToks 0 (treeParts ps kids)) 0 0 false ≡ Accepted
-unfolding placedK partsToks
-tree-accepts lv nd ps kids h c =
-    let k = placedK (0 + partSize (begins []) + propsSize ps) kids in
-    ap (λ (ts : List Tok). runL lv nd ts 0 0 false) (forest-toks (tree [] ps kids bare) 0 [])
-    ∙ tree-accepted lv nd 0 (placedP (0 + partSize (begins [])) ps) k
-    (subst (λ (m : ℕ). suc m ≤ lv) (sym (height-forest kids (0 + partSize (begins []) + propsSize ps))) h)
-    (subst (λ (m : ℕ). suc m ≤ nd) (sym (count-forest kids (0 + partSize (begins []) + propsSize ps))) c)
+pub tree_accepts : (lv nd : ℕ) (ps : List NamedValue) (kids : Forest) → suc (levels_of kids) ≤ lv → suc (nodes_of kids) ≤ nd
+    → run_l lv nd (parts_toks 0 (tree_parts ps kids)) 0 0 false ≡ Accepted
+unfolding placed_k parts_toks
+tree_accepts lv nd ps kids h c =
+    let k = placed_k (0 + part_size (begins []) + props_size ps) kids in
+    ap (λ (ts : List Tok). run_l lv nd ts 0 0 false) (forest_toks (tree [] ps kids bare) 0 [])
+    ∙ tree_accepted lv nd 0 (placed_p (0 + part_size (begins [])) ps) k
+    (subst (λ (m : ℕ). suc m ≤ lv) (sym (height_forest kids (0 + part_size (begins []) + props_size ps))) h)
+    (subst (λ (m : ℕ). suc m ≤ nd) (sym (count_forest kids (0 + part_size (begins []) + props_size ps))) c)

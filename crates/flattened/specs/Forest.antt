@@ -1,7 +1,7 @@
 -- A tree without places, its parts, and the tree with places that is read back.
 use Rattle.std.specs.Prelude.{ℕ, zero, suc, ◌+◌, max, List, [], ◌∷◌}
 use Rattle.fdt.specs.Tree.{Property, Nodes, none, node}
-use Rattle.flattened.specs.Parts.{Part, begins, property, ends, partSize}
+use Rattle.flattened.specs.Parts.{Part, begins, property, ends, part_size}
 
 -- a property without its place
 pub record NamedValue : Type 0 where
@@ -14,51 +14,51 @@ pub data Forest : Type 0 where
   tree : (name : List ℕ) (props : List NamedValue) (kids rest : Forest) → Forest
 
 -- their parts, and then r
-abbrev pub propParts : List NamedValue → List Part → List Part
-propParts [] r = r
-propParts (p ∷ ps) r = property p.name p.value ∷ propParts ps r
+abbrev pub prop_parts : List NamedValue → List Part → List Part
+prop_parts [] r = r
+prop_parts (p ∷ ps) r = property p.name p.value ∷ prop_parts ps r
 
-abbrev pub forestParts : Forest → List Part → List Part
-forestParts bare r = r
-forestParts (tree name ps kids rest) r = begins name ∷ propParts ps (forestParts kids (ends ∷ forestParts rest r))
+abbrev pub forest_parts : Forest → List Part → List Part
+forest_parts bare r = r
+forest_parts (tree name ps kids rest) r = begins name ∷ prop_parts ps (forest_parts kids (ends ∷ forest_parts rest r))
 
 -- the parts of a whole tree: one root, whose name is empty
-abbrev pub treeParts : List NamedValue → Forest → List Part
-treeParts ps kids = forestParts (tree [] ps kids bare) []
+abbrev pub tree_parts : List NamedValue → Forest → List Part
+tree_parts ps kids = forest_parts (tree [] ps kids bare) []
 
 -- how many nodes these are, with all below them, and how many levels
-abbrev pub nodesOf : Forest → ℕ
-nodesOf bare = 0
-nodesOf (tree name ps kids rest) = suc (nodesOf kids + nodesOf rest)
+abbrev pub nodes_of : Forest → ℕ
+nodes_of bare = 0
+nodes_of (tree name ps kids rest) = suc (nodes_of kids + nodes_of rest)
 
-abbrev pub levelsOf : Forest → ℕ
-levelsOf bare = 0
-levelsOf (tree name ps kids rest) = max (suc (levelsOf kids)) (levelsOf rest)
+abbrev pub levels_of : Forest → ℕ
+levels_of bare = 0
+levels_of (tree name ps kids rest) = max (suc (levels_of kids)) (levels_of rest)
 
 -- ── Without the places: what a tree that is read says ──
-unfoldable pub bareP : List Property → List NamedValue
-bareP [] = []
-bareP (p ∷ ps) = record { name = p.name; value = p.value } ∷ bareP ps
+unfoldable pub bare_p : List Property → List NamedValue
+bare_p [] = []
+bare_p (p ∷ ps) = record { name = p.name; value = p.value } ∷ bare_p ps
 
-unfoldable pub bareK : Nodes → Forest
-bareK none = bare
-bareK (node at name ps kids rest) = tree name (bareP ps) (bareK kids) (bareK rest)
+unfoldable pub bare_k : Nodes → Forest
+bare_k none = bare
+bare_k (node at name ps kids rest) = tree name (bare_p ps) (bare_k kids) (bare_k rest)
 
 -- ── With the places, the first of them p ──
-unfoldable pub propsSize : List NamedValue → ℕ
-propsSize [] = 0
-propsSize (q ∷ qs) = partSize (property q.name q.value) + propsSize qs
+unfoldable pub props_size : List NamedValue → ℕ
+props_size [] = 0
+props_size (q ∷ qs) = part_size (property q.name q.value) + props_size qs
 
-unfoldable pub forestSize : Forest → ℕ
-forestSize bare = 0
-forestSize (tree name ps kids rest) = partSize (begins name) + propsSize ps + forestSize kids + 4 + forestSize rest
+unfoldable pub forest_size : Forest → ℕ
+forest_size bare = 0
+forest_size (tree name ps kids rest) = part_size (begins name) + props_size ps + forest_size kids + 4 + forest_size rest
 
-unfoldable pub placedP : ℕ → List NamedValue → List Property
-placedP p [] = []
-placedP p (q ∷ qs) = record { at = p; name = q.name; value = q.value } ∷ placedP (p + partSize (property q.name q.value)) qs
+unfoldable pub placed_p : ℕ → List NamedValue → List Property
+placed_p p [] = []
+placed_p p (q ∷ qs) = record { at = p; name = q.name; value = q.value } ∷ placed_p (p + part_size (property q.name q.value)) qs
 
-unfoldable pub placedK : ℕ → Forest → Nodes
-placedK p bare = none
-placedK p (tree name ps kids rest) =
-    node p name (placedP (p + partSize (begins name)) ps) (placedK (p + partSize (begins name) + propsSize ps) kids)
-    (placedK (p + partSize (begins name) + propsSize ps + forestSize kids + 4) rest)
+unfoldable pub placed_k : ℕ → Forest → Nodes
+placed_k p bare = none
+placed_k p (tree name ps kids rest) =
+    node p name (placed_p (p + part_size (begins name)) ps) (placed_k (p + part_size (begins name) + props_size ps) kids)
+    (placed_k (p + part_size (begins name) + props_size ps + forest_size kids + 4) rest)

@@ -12,56 +12,56 @@ pub data Part : Type 0 where
   ends : Part
 
 -- the bytes of a part in the structure block, where its name, if it is a property, stands at a in the strings block
-unfoldable pub partBytes : ℕ → Part → List ℕ
-partBytes a (begins name) = bytes4 1 ++ (name ++ (0 ∷ padding (length name + 1)))
-partBytes a (property name value) = bytes4 3 ++ (bytes4 (length value) ++ (bytes4 a ++ (value ++ padding (length value))))
-partBytes a ends = bytes4 2
+unfoldable pub part_bytes : ℕ → Part → List ℕ
+part_bytes a (begins name) = bytes4 1 ++ (name ++ (0 ∷ padding (length name + 1)))
+part_bytes a (property name value) = bytes4 3 ++ (bytes4 (length value) ++ (bytes4 a ++ (value ++ padding (length value))))
+part_bytes a ends = bytes4 2
 
 -- and in the strings block: "Each property stores its name anew in the strings block."
-unfoldable pub nameBytes : Part → List ℕ
-nameBytes (begins name) = []
-nameBytes (property name value) = name ++ (0 ∷ [])
-nameBytes ends = []
+unfoldable pub name_bytes : Part → List ℕ
+name_bytes (begins name) = []
+name_bytes (property name value) = name ++ (0 ∷ [])
+name_bytes ends = []
 
 -- how many they are
-unfoldable pub partSize : Part → ℕ
-partSize (begins name) = 4 + align4 (length name + 1)
-partSize (property name value) = 12 + align4 (length value)
-partSize ends = 4
+unfoldable pub part_size : Part → ℕ
+part_size (begins name) = 4 + align4 (length name + 1)
+part_size (property name value) = 12 + align4 (length value)
+part_size ends = 4
 
-unfoldable pub nameSize : Part → ℕ
-nameSize (begins name) = 0
-nameSize (property name value) = length name + 1
-nameSize ends = 0
+unfoldable pub name_size : Part → ℕ
+name_size (begins name) = 0
+name_size (property name value) = length name + 1
+name_size ends = 0
 
 -- the parts one after the other, the first property's name standing at a in the strings block; FDT_END is not among them
-unfoldable pub partsBytes : ℕ → List Part → List ℕ
-partsBytes a [] = []
-partsBytes a (x ∷ xs) = partBytes a x ++ partsBytes (a + nameSize x) xs
+unfoldable pub parts_bytes : ℕ → List Part → List ℕ
+parts_bytes a [] = []
+parts_bytes a (x ∷ xs) = part_bytes a x ++ parts_bytes (a + name_size x) xs
 
-unfoldable pub namesBytes : List Part → List ℕ
-namesBytes [] = []
-namesBytes (x ∷ xs) = nameBytes x ++ namesBytes xs
+unfoldable pub names_bytes : List Part → List ℕ
+names_bytes [] = []
+names_bytes (x ∷ xs) = name_bytes x ++ names_bytes xs
 
 -- how many they are
-unfoldable pub partsSize : List Part → ℕ
-partsSize [] = 0
-partsSize (x ∷ xs) = partSize x + partsSize xs
+unfoldable pub parts_size : List Part → ℕ
+parts_size [] = 0
+parts_size (x ∷ xs) = part_size x + parts_size xs
 
-unfoldable pub namesSize : List Part → ℕ
-namesSize [] = 0
-namesSize (x ∷ xs) = nameSize x + namesSize xs
+unfoldable pub names_size : List Part → ℕ
+names_size [] = 0
+names_size (x ∷ xs) = name_size x + names_size xs
 
 -- what is read of a part at p
-unfoldable pub partTok : ℕ → Part → Tok
-partTok p (begins name) = begin p name
-partTok p (property name value) = prop (record { at = p; name = name; value = value })
-partTok p ends = ended
+unfoldable pub part_tok : ℕ → Part → Tok
+part_tok p (begins name) = begin p name
+part_tok p (property name value) = prop (record { at = p; name = name; value = value })
+part_tok p ends = ended
 
 -- what is read of them all, and of FDT_END after them
-unfoldable pub partsToks : ℕ → List Part → List Tok
-partsToks p [] = fin ∷ []
-partsToks p (x ∷ xs) = partTok p x ∷ partsToks (p + partSize x) xs
+unfoldable pub parts_toks : ℕ → List Part → List Tok
+parts_toks p [] = fin ∷ []
+parts_toks p (x ∷ xs) = part_tok p x ∷ parts_toks (p + part_size x) xs
 
 -- "a zero byte in a name" is refused
 abbrev pub NoZero : List ℕ → Type 0

@@ -12,32 +12,32 @@ use lib.Dec.{leb, eqb}
 use borrow.Author.Tests.{eqb-true, eqb-false, leb-true, leb-false}
 use Rattle.numbers.specs.Number.{Names}
 use Rattle.numbers.proofs.Given.{given}
-use Rattle.fdt.specs.Header.{totalsize, GoodHeader, goodHeader, structureOf, stringsOf}
+use Rattle.fdt.specs.Header.{totalsize, GoodHeader, good_header, structure_of, strings_of}
 use Rattle.fdt.specs.Walk.{walked}
 use Rattle.fdt.specs.Tree.{Property, Nodes, Tok}
 use Rattle.fdt.specs.Grammar.{Block, Within}
-use Rattle.fdt.specs.Opening.{openedNumber, blocksOf, judged, opened_of}
+use Rattle.fdt.specs.Opening.{opened_number, blocks_of, judged, opened_of}
 use Rattle.fdt.specs.declared.Verdict.{Verdict}
 use Rattle.fdt.specs.declared.Verdict.TheVariants.{Accepted, Broken, Over}
 use Rattle.fdt.specs.declared.Blocks.{Blocks}
 use Rattle.fdt.specs.declared.Opened.{Opened}
 use Rattle.fdt.specs.declared.Opened.TheVariants.{NoTree, Tree, BadHeader, OverLimit, BadStructure}
-use Rattle.words.proofs.BytesLaws.{never, cond-elim}
-use Rattle.fdt.proofs.HeaderLaws.{good-header, bad-header}
-use Rattle.fdt.proofs.VerdictLaws.{says_none, says-header, says-large, says-walked}
+use Rattle.words.proofs.BytesLaws.{never, cond_elim}
+use Rattle.fdt.proofs.HeaderLaws.{good_header_lem, bad_header}
+use Rattle.fdt.proofs.VerdictLaws.{says_none, says_header, says_large, says_walked}
 use Rattle.grammar.specs.Faults.{Begins, BeginsWithin, Upto, here}
 use Rattle.grammar.specs.Numbers.{HeaderBroken, OverLimits, StructureBroken, Opens}
-use Rattle.grammar.proofs.GrammarLaws.{accepted-exactly}
-use Rattle.grammar.proofs.FaultLaws.{broken-exactly, exceeds-exactly, grammar-over, no-grammar-broken}
+use Rattle.grammar.proofs.GrammarLaws.{accepted_exactly}
+use Rattle.grammar.proofs.FaultLaws.{broken_exactly, exceeds_exactly, grammar_over, no_grammar_broken}
 
 -- 4, 5 and 6 name their cases
-opened-names : Names openedNumber
-opened-names = record { back = refusalOf; named = each }
+opened_names : Names opened_number
+opened_names = record { back = refusal_of; named = each }
   where
-    refusalOf : ℕ → Opened
-    refusalOf n = cond (eqb n 4) BadHeader (cond (eqb n 5) BadStructure OverLimit)
+    refusal_of : ℕ → Opened
+    refusal_of n = cond (eqb n 4) BadHeader (cond (eqb n 5) BadStructure OverLimit)
 
-    each : (o : Opened) → (openedNumber o ≡ 0) ⊎ (refusalOf (openedNumber o) ≡ o)
+    each : (o : Opened) → (opened_number o ≡ 0) ⊎ (refusal_of (opened_number o) ≡ o)
     each NoTree = inl refl
     each (Tree k) = inl refl
     each BadHeader = inr refl
@@ -48,27 +48,27 @@ module _ (s : List ℕ) where
   -- what holds where this is the answer
   abbrev Says : Opened → Type 0
   Says NoTree = length s ≡ 0
-  Says (Tree k) = GoodHeader s × (totalsize s ≤ 1048576) × (walked (structureOf s) (stringsOf s) ≡ Accepted) × (k ≡ blocksOf s)
+  Says (Tree k) = GoodHeader s × (totalsize s ≤ 1048576) × (walked (structure_of s) (strings_of s) ≡ Accepted) × (k ≡ blocks_of s)
   Says BadHeader = (length s ≡ 0 → ⊥) × (GoodHeader s → ⊥)
-  Says OverLimit = GoodHeader s × ((1048576 < totalsize s) ⊎ ((totalsize s ≤ 1048576) × (walked (structureOf s) (stringsOf s) ≡ Over)))
-  Says BadStructure = GoodHeader s × (totalsize s ≤ 1048576) × (walked (structureOf s) (stringsOf s) ≡ Broken)
+  Says OverLimit = GoodHeader s × ((1048576 < totalsize s) ⊎ ((totalsize s ≤ 1048576) × (walked (structure_of s) (strings_of s) ≡ Over)))
+  Says BadStructure = GoodHeader s × (totalsize s ≤ 1048576) × (walked (structure_of s) (strings_of s) ≡ Broken)
 
-  judged-says : GoodHeader s → totalsize s ≤ 1048576 → (v : Verdict) → walked (structureOf s) (stringsOf s) ≡ v → Says (judged v (blocksOf s))
-  judged-says g l Accepted e = (g, l, e, refl)
-  judged-says g l Broken e = (g, l, e)
-  judged-says g l Over e = (g, inr (l, e))
+  judged_says : GoodHeader s → totalsize s ≤ 1048576 → (v : Verdict) → walked (structure_of s) (strings_of s) ≡ v → Says (judged v (blocks_of s))
+  judged_says g l Accepted e = (g, l, e, refl)
+  judged_says g l Broken e = (g, l, e)
+  judged_says g l Over e = (g, inr (l, e))
 
-  no_test : goodHeader s ≡ false → GoodHeader s → ⊥
-  no_test e g = let h : goodHeader s ≡ true = (good-header s).1 g in never (cc)
+  no_test : good_header s ≡ false → GoodHeader s → ⊥
+  no_test e g = let h : good_header s ≡ true = (good_header_lem s).1 g in never (cc)
 
   says : Says (opened_of s)
   unfolding opened_of
   says =
-      cond-elim Says (eqb (length s) 0) _ _ (λ e. eqb-true _ _ e)
-      (λ e. cond-elim Says (goodHeader s) _ _
-      (λ t. cond-elim Says (leb (totalsize s) 1048576) _ _
-      (λ l. judged-says ((good-header s).0 t) (leb-true _ _ l) (walked (structureOf s) (stringsOf s)) refl)
-      (λ l. ((good-header s).0 t, inl (leb-false _ _ l))))
+      cond_elim Says (eqb (length s) 0) _ _ (λ e. eqb-true _ _ e)
+      (λ e. cond_elim Says (good_header s) _ _
+      (λ t. cond_elim Says (leb (totalsize s) 1048576) _ _
+      (λ l. judged_says ((good_header_lem s).0 t) (leb-true _ _ l) (walked (structure_of s) (strings_of s)) refl)
+      (λ l. ((good_header_lem s).0 t, inl (leb-false _ _ l))))
       (λ t. (eqb-false _ _ e, no_test t)))
 
   says_of : (o : Opened) → opened_of s ≡ o → Says o
@@ -78,75 +78,75 @@ module _ (s : List ℕ) where
   some_bytes : GoodHeader s → length s ≡ 0 → ⊥
   some_bytes g e = omega arith
 
-  by-walk : (v : Verdict) → GoodHeader s → totalsize s ≤ 1048576 → walked (structureOf s) (stringsOf s) ≡ v → opened_of s ≡ judged v (blocksOf s)
-  by-walk v g l e = sym (says-walked s (some_bytes g) ((good-header s).1 g) l) ∙ ap (λ (x : Verdict). judged x (blocksOf s)) e
+  by_walk : (v : Verdict) → GoodHeader s → totalsize s ≤ 1048576 → walked (structure_of s) (strings_of s) ≡ v → opened_of s ≡ judged v (blocks_of s)
+  by_walk v g l e = sym (says_walked s (some_bytes g) ((good_header_lem s).1 g) l) ∙ ap (λ (x : Verdict). judged x (blocks_of s)) e
 
   -- THE ANSWERS
-  pub no-tree-exactly : (opened_of s ≡ NoTree) ↔ (length s ≡ 0)
-  no-tree-exactly = (says_of NoTree, (λ e. sym (says_none s e)))
+  pub no_tree_exactly : (opened_of s ≡ NoTree) ↔ (length s ≡ 0)
+  no_tree_exactly = (says_of NoTree, (λ e. sym (says_none s e)))
 
-  pub bad-header-exactly : (opened_of s ≡ BadHeader) ↔ HeaderBroken s
-  bad-header-exactly = (says_of BadHeader, (λ h. sym (says-header s h.0 (sym (bad-header s h.1)))))
+  pub bad_header_exactly : (opened_of s ≡ BadHeader) ↔ HeaderBroken s
+  bad_header_exactly = (says_of BadHeader, (λ h. sym (says_header s h.0 (sym (bad_header s h.1)))))
 
-  pub over-exactly : (opened_of s ≡ OverLimit) ↔ OverLimits s
-  over-exactly =
-      let x = exceeds-exactly (structureOf s) (stringsOf s) in (
+  pub over_exactly : (opened_of s ≡ OverLimit) ↔ OverLimits s
+  over_exactly =
+      let x = exceeds_exactly (structure_of s) (strings_of s) in (
         (λ e. let h = says_of OverLimit e in (h.0, ⊎_elim (λ l. inl l) (λ w. inr (w.0, x.0 w.1)) h.1)),
-        (λ h. ⊎_elim (λ l. sym (says-large s (some_bytes h.0) ((good-header s).1 h.0) l)) (λ w. by-walk Over h.0 w.0 (x.1 w.1)) h.1),
+        (λ h. ⊎_elim (λ l. sym (says_large s (some_bytes h.0) ((good_header_lem s).1 h.0) l)) (λ w. by_walk Over h.0 w.0 (x.1 w.1)) h.1),
       )
 
-  pub bad-structure-exactly : (opened_of s ≡ BadStructure) ↔ StructureBroken s
-  bad-structure-exactly =
-      let x = broken-exactly (structureOf s) (stringsOf s) in (
+  pub bad_structure_exactly : (opened_of s ≡ BadStructure) ↔ StructureBroken s
+  bad_structure_exactly =
+      let x = broken_exactly (structure_of s) (strings_of s) in (
         (λ e. let h = says_of BadStructure e in (h.0, h.1, x.0 h.2)),
-        (λ h. by-walk Broken h.0 h.1 (x.1 h.2)),
+        (λ h. by_walk Broken h.0 h.1 (x.1 h.2)),
       )
 
-  pub opened-exactly : (opened_of s ≡ Tree (blocksOf s)) ↔ Opens s
-  opened-exactly = (
-    (λ e. let h = says_of (Tree (blocksOf s)) e in (h.0, h.1, (accepted-exactly (structureOf s) (stringsOf s)).0 h.2)),
-    (λ h. by-walk Accepted h.0 h.1 ((accepted-exactly (structureOf s) (stringsOf s)).1 h.2)),
+  pub opened_exactly : (opened_of s ≡ Tree (blocks_of s)) ↔ Opens s
+  opened_exactly = (
+    (λ e. let h = says_of (Tree (blocks_of s)) e in (h.0, h.1, (accepted_exactly (structure_of s) (strings_of s)).0 h.2)),
+    (λ h. by_walk Accepted h.0 h.1 ((accepted_exactly (structure_of s) (strings_of s)).1 h.2)),
   )
 
   -- whatever blocks are answered, they are those of the header
-  pub opened-blocks : (k : Blocks) → opened_of s ≡ Tree k → k ≡ blocksOf s
-  opened-blocks k e = (says_of (Tree k) e).3
+  pub opened_blocks : (k : Blocks) → opened_of s ≡ Tree k → k ≡ blocks_of s
+  opened_blocks k e = (says_of (Tree k) e).3
 
   -- THE NUMBERS: "Given exactly when"
 
   -- none of them: no tree, or one that is opened
-  pub number-0 : (openedNumber (opened_of s) ≡ 0) ↔ ((length s ≡ 0) ⊎ Opens s)
-  number-0 = (there (opened_of s) refl, λ h. ⊎_elim (λ e. ap openedNumber (no-tree-exactly.1 e)) (λ w. ap openedNumber (opened-exactly.1 w)) h)
+  pub number_0 : (opened_number (opened_of s) ≡ 0) ↔ ((length s ≡ 0) ⊎ Opens s)
+  number_0 = (there (opened_of s) refl, λ h. ⊎_elim (λ e. ap opened_number (no_tree_exactly.1 e)) (λ w. ap opened_number (opened_exactly.1 w)) h)
     where
-      there : (o : Opened) → opened_of s ≡ o → openedNumber o ≡ 0 → (length s ≡ 0) ⊎ Opens s
-      there NoTree e h = inl (no-tree-exactly.0 e)
-      there (Tree k) e h = inr (opened-exactly.0 (e ∙ ap Tree (opened-blocks k e)))
+      there : (o : Opened) → opened_of s ≡ o → opened_number o ≡ 0 → (length s ≡ 0) ⊎ Opens s
+      there NoTree e h = inl (no_tree_exactly.0 e)
+      there (Tree k) e h = inr (opened_exactly.0 (e ∙ ap Tree (opened_blocks k e)))
       there BadHeader e h = never (cc)
       there OverLimit e h = never (cc)
       there BadStructure e h = never (cc)
 
-  pub number-4 : (openedNumber (opened_of s) ≡ 4) ↔ HeaderBroken s
-  number-4 = given opened-names BadHeader (λ z. omega arith) bad-header-exactly
+  pub number_4 : (opened_number (opened_of s) ≡ 4) ↔ HeaderBroken s
+  number_4 = given opened_names BadHeader (λ z. omega arith) bad_header_exactly
 
-  pub number-5 : (openedNumber (opened_of s) ≡ 5) ↔ StructureBroken s
-  number-5 = given opened-names BadStructure (λ z. omega arith) bad-structure-exactly
+  pub number_5 : (opened_number (opened_of s) ≡ 5) ↔ StructureBroken s
+  number_5 = given opened_names BadStructure (λ z. omega arith) bad_structure_exactly
 
-  pub number-6 : (openedNumber (opened_of s) ≡ 6) ↔ OverLimits s
-  number-6 = given opened-names OverLimit (λ z. omega arith) over-exactly
+  pub number_6 : (opened_number (opened_of s) ≡ 6) ↔ OverLimits s
+  number_6 = given opened_names OverLimit (λ z. omega arith) over_exactly
 
   -- a tree of the Specification that is not within the limits gives 6, and never 5
-  pub grammar-6 : GoodHeader s → (root : ℕ) (ps : List Property) (kids : Nodes) → Block (structureOf s) (stringsOf s) root ps kids
-      → (Within (structureOf s) (stringsOf s) kids → ⊥) → openedNumber (opened_of s) ≡ 6
-  grammar-6 g root ps kids k h = go (leb (totalsize s) 1048576) refl
+  pub grammar_6 : GoodHeader s → (root : ℕ) (ps : List Property) (kids : Nodes) → Block (structure_of s) (strings_of s) root ps kids
+      → (Within (structure_of s) (strings_of s) kids → ⊥) → opened_number (opened_of s) ≡ 6
+  grammar_6 g root ps kids k h = go (leb (totalsize s) 1048576) refl
     where
-      go : (x : Bool) → leb (totalsize s) 1048576 ≡ x → openedNumber (opened_of s) ≡ 6
+      go : (x : Bool) → leb (totalsize s) 1048576 ≡ x → opened_number (opened_of s) ≡ 6
       go true e =
-          number-6.1 (g, inr (leb-true _ _ e, (exceeds-exactly (structureOf s) (stringsOf s)).0 (grammar-over (structureOf s) (stringsOf s) root ps kids k h)))
-      go false e = number-6.1 (g, inl (leb-false _ _ e))
+          number_6.1 (g, inr (leb-true _ _ e, (exceeds_exactly (structure_of s) (strings_of s)).0 (grammar_over (structure_of s) (strings_of s) root ps kids k h)))
+      go false e = number_6.1 (g, inl (leb-false _ _ e))
 
   -- what is no tree of the Specification gives 5, where all that is in order in it is within the limits
-  pub no-grammar-5 : GoodHeader s → totalsize s ≤ 1048576 → ((root : ℕ) (ps : List Property) (kids : Nodes) → Block (structureOf s) (stringsOf s) root ps kids → ⊥)
-      → ((p : ℕ) (ts : List Tok) → Upto (structureOf s) (stringsOf s) p ts → Begins (ts ++ here (structureOf s) (stringsOf s) p) → BeginsWithin (structureOf s) (stringsOf s) (ts ++ here (structureOf s) (stringsOf s) p))
-      → openedNumber (opened_of s) ≡ 5
-  no-grammar-5 g l h k =
-      number-5.1 (g, l, (broken-exactly (structureOf s) (stringsOf s)).0 (no-grammar-broken (structureOf s) (stringsOf s) h k))
+  pub no_grammar_5 : GoodHeader s → totalsize s ≤ 1048576 → ((root : ℕ) (ps : List Property) (kids : Nodes) → Block (structure_of s) (strings_of s) root ps kids → ⊥)
+      → ((p : ℕ) (ts : List Tok) → Upto (structure_of s) (strings_of s) p ts → Begins (ts ++ here (structure_of s) (strings_of s) p) → BeginsWithin (structure_of s) (strings_of s) (ts ++ here (structure_of s) (strings_of s) p))
+      → opened_number (opened_of s) ≡ 5
+  no_grammar_5 g l h k =
+      number_5.1 (g, l, (broken_exactly (structure_of s) (strings_of s)).0 (no_grammar_broken (structure_of s) (strings_of s) h k))

@@ -3,8 +3,8 @@
 -- trees that the tokens up to a place can still become, and with nothing of the walk.
 use Rattle.std.specs.Prelude.{◌≡◌, ◌⊎◌, ℕ, suc, ◌+◌, ◌<◌, List, [], ◌∷◌, ◌++◌}
 use Rattle.words.specs.Bytes.{bytes}
-use Rattle.fdt.specs.Token.{tokAt}
-use Rattle.fdt.specs.Tree.{Property, Nodes, none, node, Tok, begin, ended, prop, fin, bad, flatK, taken}
+use Rattle.fdt.specs.Token.{tok_at}
+use Rattle.fdt.specs.Tree.{Property, Nodes, none, node, Tok, begin, ended, prop, fin, bad, flat_k, taken}
 use Rattle.fdt.specs.Grammar.{Within}
 use Rattle.fdt.specs.declared.Token.{Token}
 use Rattle.fdt.specs.declared.Token.TheVariants.{Bad, Nop, Begin, EndNode, Prop, Fin}
@@ -15,7 +15,7 @@ pub record Begins (ts : List Tok) : Type 0 where
   pub ps : List Property
   pub kids : Nodes
   pub rest : List Tok
-  pub form : flatK (node root [] ps kids none) (fin ∷ []) ≡ ts ++ rest
+  pub form : flat_k (node root [] ps kids none) (fin ∷ []) ≡ ts ++ rest
 
 -- how many nodes begin among these tokens, and how many end
 abbrev pub begun : List Tok → ℕ
@@ -61,22 +61,22 @@ module _ (b n : List ℕ) where
   -- the tokens from the block's start up to a place. FDT_NOP is ignored
   pub data Upto : ℕ → List Tok → Type 0 where
     start : Upto 0 []
-    past-nop : {p q : ℕ} {ts : List Tok} → Upto p ts → tokAt b n p ≡ Nop q → Upto q ts
-    past-begin : {p l q : ℕ} {ts : List Tok} → Upto p ts → tokAt b n p ≡ Begin l q → Upto q (ts ++ (begin p (bytes b (p + 4) (p + 4 + l)) ∷ []))
-    past_end : {p q : ℕ} {ts : List Tok} → Upto p ts → tokAt b n p ≡ EndNode q → Upto q (ts ++ (ended ∷ []))
-    past-prop : {p l a z q : ℕ} {ts : List Tok} → Upto p ts → tokAt b n p ≡ Prop l a z q
+    past_nop : {p q : ℕ} {ts : List Tok} → Upto p ts → tok_at b n p ≡ Nop q → Upto q ts
+    past_begin : {p l q : ℕ} {ts : List Tok} → Upto p ts → tok_at b n p ≡ Begin l q → Upto q (ts ++ (begin p (bytes b (p + 4) (p + 4 + l)) ∷ []))
+    past_end : {p q : ℕ} {ts : List Tok} → Upto p ts → tok_at b n p ≡ EndNode q → Upto q (ts ++ (ended ∷ []))
+    past_prop : {p l a z q : ℕ} {ts : List Tok} → Upto p ts → tok_at b n p ≡ Prop l a z q
         → Upto q (ts ++ (prop (record { at = p; name = bytes n a z; value = bytes b (p + 12) (p + 12 + l) }) ∷ []))
 
   -- the token that stands at a place: none for FDT_NOP, and `bad` where none can be read, which no tree is written in
   abbrev pub here : ℕ → List Tok
-  here p = taken b n p (tokAt b n p) (λ q. [])
+  here p = taken b n p (tok_at b n p) (λ q. [])
 
   -- 0: at some place stands FDT_END, and with it the tokens are the first of a tree within the limits, and so all of them
   pub record Whole : Type 0 where
     pub at : ℕ
     pub before : List Tok
     pub upto : Upto at before
-    pub end : tokAt b n at ≡ Fin
+    pub end : tok_at b n at ≡ Fin
     pub sound : BeginsWithin (before ++ here at)
 
   -- 5: up to some place the tokens are the first of a tree within the limits; with the token there they are the first of no tree
@@ -93,7 +93,7 @@ module _ (b n : List ℕ) where
     pub before : List Tok
     pub upto : Upto at before
     pub sound : BeginsWithin before
-    pub wrong : Wrong (tokAt b n at) before
+    pub wrong : Wrong (tok_at b n at) before
 
   -- 6: up to some place the tokens are the first of a tree within the limits; with the token there they are the first of a tree, and of none
   -- within the limits
@@ -113,6 +113,6 @@ module _ (b n : List ℕ) where
     pub sound : BeginsWithin before
     pub len : ℕ
     pub next : ℕ
-    pub begins : tokAt b n at ≡ Begin len next
+    pub begins : tok_at b n at ≡ Begin len next
     pub inside : closed before < begun before
     pub limit : (begun before ≡ closed before + 32) ⊎ (begun before ≡ 4096)

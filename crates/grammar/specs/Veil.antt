@@ -1,8 +1,8 @@
 -- Bytes that differ only inside the values of some properties and in padding, and trees that are the same but for those values.
 use Rattle.std.specs.Prelude.{◌≡◌, ◌⊎◌, ℕ, ◌+◌, ◌-◌, ◌≤◌, ◌<◌, List, [], ◌∷◌, Bool, true, cond, length, get_or}
 use Rattle.words.specs.Bytes.{align4}
-use Rattle.fdt.specs.Header.{GoodHeader, off-dt-struct, off-dt-strings, size-dt-struct, size-dt-strings, structureOf, stringsOf}
-use Rattle.fdt.specs.Tree.{Property, Nodes, none, node, Tok, begin, ended, prop, fin, bad, lexAt}
+use Rattle.fdt.specs.Header.{GoodHeader, off_dt_struct, off_dt_strings, size_dt_struct, size_dt_strings, structure_of, strings_of}
+use Rattle.fdt.specs.Tree.{Property, Nodes, none, node, Tok, begin, ended, prop, fin, bad, lex_at}
 
 -- which properties are free to change: by the place of the property's token in the structure block, and by its name
 abbrev pub Free : Type 0
@@ -17,23 +17,23 @@ blank (x ∷ l) = 0 ∷ blank l
 unfoldable pub veil : Free → Property → Property
 veil free p = record { at = p.at; name = p.name; value = cond (free p.at p.name) (blank p.value) p.value }
 
-unfoldable pub veilP : Free → List Property → List Property
-veilP free [] = []
-veilP free (p ∷ ps) = veil free p ∷ veilP free ps
+unfoldable pub veil_p : Free → List Property → List Property
+veil_p free [] = []
+veil_p free (p ∷ ps) = veil free p ∷ veil_p free ps
 
 -- the tree with the values of its free properties blanked
-unfoldable pub veilK : Free → Nodes → Nodes
-veilK free none = none
-veilK free (node at name ps kids rest) = node at name (veilP free ps) (veilK free kids) (veilK free rest)
+unfoldable pub veil_k : Free → Nodes → Nodes
+veil_k free none = none
+veil_k free (node at name ps kids rest) = node at name (veil_p free ps) (veil_k free kids) (veil_k free rest)
 
 -- the same on tokens
-unfoldable pub veilT : Free → List Tok → List Tok
-veilT free [] = []
-veilT free (begin p nm ∷ ts) = begin p nm ∷ veilT free ts
-veilT free (ended ∷ ts) = ended ∷ veilT free ts
-veilT free (prop q ∷ ts) = prop (veil free q) ∷ veilT free ts
-veilT free (fin ∷ ts) = fin ∷ veilT free ts
-veilT free (bad ∷ ts) = bad ∷ veilT free ts
+unfoldable pub veil_t : Free → List Tok → List Tok
+veil_t free [] = []
+veil_t free (begin p nm ∷ ts) = begin p nm ∷ veil_t free ts
+veil_t free (ended ∷ ts) = ended ∷ veil_t free ts
+veil_t free (prop q ∷ ts) = prop (veil free q) ∷ veil_t free ts
+veil_t free (fin ∷ ts) = fin ∷ veil_t free ts
+veil_t free (bad ∷ ts) = bad ∷ veil_t free ts
 
 -- the byte at i of the structure block is in the value of a free property among these tokens. A value stands 12 bytes past its token
 unfoldable pub Inside : Free → List Tok → ℕ → Type 0
@@ -58,20 +58,20 @@ Padding (bad ∷ ts) i = Padding ts i
 -- in padding of b
 pub record BlockDiffers (free : Free) (n b c : List ℕ) : Type 0 where
   pub long : length b ≡ length c
-  pub bytes : (i : ℕ) → i < length b → (Inside free (lexAt b n 0) i → ⊥) → (Padding (lexAt b n 0) i → ⊥) → get_or b i 0 ≡ get_or c i 0
+  pub bytes : (i : ℕ) → i < length b → (Inside free (lex_at b n 0) i → ⊥) → (Padding (lex_at b n 0) i → ⊥) → get_or b i 0 ≡ get_or c i 0
 
 -- the byte at i of a whole tree is in the value of a free property; bytes with no good header have no property
 pub record InValue (free : Free) (s : List ℕ) (i : ℕ) : Type 0 where
   pub header : GoodHeader s
-  pub from : off-dt-struct s ≤ i
-  pub inside : Inside free (lexAt (structureOf s) (stringsOf s) 0) (i - off-dt-struct s)
+  pub from : off_dt_struct s ≤ i
+  pub inside : Inside free (lex_at (structure_of s) (strings_of s) 0) (i - off_dt_struct s)
 
 -- the byte at i of a whole tree is padding in its structure block; bytes with no good header have none
 pub record InPadding (s : List ℕ) (i : ℕ) : Type 0 where
   pub header : GoodHeader s
-  pub from : off-dt-struct s ≤ i
-  pub upto : i < off-dt-struct s + size-dt-struct s
-  pub inside : Padding (lexAt (structureOf s) (stringsOf s) 0) (i - off-dt-struct s)
+  pub from : off_dt_struct s ≤ i
+  pub upto : i < off_dt_struct s + size_dt_struct s
+  pub inside : Padding (lex_at (structure_of s) (strings_of s) 0) (i - off_dt_struct s)
 
 -- t is as long as s, and differs from it only in values of free properties of s and in padding of s
 pub record Differs (free : Free) (s t : List ℕ) : Type 0 where
@@ -86,4 +86,4 @@ pub record PaddingDiffers (s t : List ℕ) : Type 0 where
 -- the strings block does not overlap the structure block
 abbrev pub Apart : List ℕ → Type 0
 Apart s =
-    (i : ℕ) → off-dt-struct s ≤ i → i < off-dt-struct s + size-dt-struct s → off-dt-strings s ≤ i → i < off-dt-strings s + size-dt-strings s → ⊥
+    (i : ℕ) → off_dt_struct s ≤ i → i < off_dt_struct s + size_dt_struct s → off_dt_strings s ≤ i → i < off_dt_strings s + size_dt_strings s → ⊥

@@ -9,32 +9,32 @@ use Rattle.memory.specs.Made.{Made}
 use Rattle.memory.proofs.MapLaws.{registered_made}
 use Rattle.late_claim.specs.declared.LateAnswer.{LateAnswer}
 use Rattle.late_claim.specs.declared.LateAnswer.TheVariants.{Done, UnknownKind, NotLate, BadTable, MapFull, TooManyAreas}
-use Rattle.late_claim.specs.Late.{lateNumber, judged, entering, onDone, After, unchanged, entered, enterOf, lateOf}
+use Rattle.late_claim.specs.Late.{late_number, judged, entering, on_done, After, unchanged, entered, enter_of, late_of}
 
 -- what is so of both is so of the one that an answer picks
-pub on-either : {A : Type 0} (P : A → Type 0) (a : LateAnswer) (x y : A) → P x → P y → P (onDone a x y)
-on-either P Done x y h k = h
-on-either P UnknownKind x y h k = k
-on-either P NotLate x y h k = k
-on-either P BadTable x y h k = k
-on-either P MapFull x y h k = k
-on-either P TooManyAreas x y h k = k
+pub on_either : {A : Type 0} (P : A → Type 0) (a : LateAnswer) (x y : A) → P x → P y → P (on_done a x y)
+on_either P Done x y h k = h
+on_either P UnknownKind x y h k = k
+on_either P NotLate x y h k = k
+on_either P BadTable x y h k = k
+on_either P MapFull x y h k = k
+on_either P TooManyAreas x y h k = k
 
 -- refusals "all leave map and table unchanged"
-pub refused-unchanged : (p : ℕ) (m : MemoryMap) (c : Claim) (n : ℕ) (l : List ℕ) → (lateNumber (lateOf p m c n l).answer ≡ 0 → ⊥)
-    → lateOf p m c n l ≡ unchanged m n l (lateOf p m c n l).answer
-unfolding lateOf enterOf
-refused-unchanged p m c n l =
-    on-either Same (judged p c.kind n l) _ (unchanged m n l (judged p c.kind n l))
-    (on-either Same (entering p m c n l) (entered p m c n l) (unchanged m n l (entering p m c n l)) (λ f. absurd (f refl)) (λ f. refl))
+pub refused_unchanged : (p : ℕ) (m : MemoryMap) (c : Claim) (n : ℕ) (l : List ℕ) → (late_number (late_of p m c n l).answer ≡ 0 → ⊥)
+    → late_of p m c n l ≡ unchanged m n l (late_of p m c n l).answer
+unfolding late_of enter_of
+refused_unchanged p m c n l =
+    on_either Same (judged p c.kind n l) _ (unchanged m n l (judged p c.kind n l))
+    (on_either Same (entering p m c n l) (entered p m c n l) (unchanged m n l (entering p m c n l)) (λ f. absurd (f refl)) (λ f. refl))
     (λ f. refl)
   where
     Same : After → Type 0
-    Same a = (lateNumber a.answer ≡ 0 → ⊥) → a ≡ unchanged m n l a.answer
+    Same a = (late_number a.answer ≡ 0 → ⊥) → a ≡ unchanged m n l a.answer
 
-pub late-made : (p : ℕ) (m : MemoryMap) (c : Claim) (n : ℕ) (l : List ℕ) → Page p → Made p m → Made p (lateOf p m c n l).map
-unfolding lateOf enterOf
-late-made p m c n l g h =
-    on-either (λ (a : After). Made p a.map) (judged p c.kind n l) _ (unchanged m n l (judged p c.kind n l))
-    (on-either (λ (a : After). Made p a.map) (entering p m c n l) (entered p m c n l) (unchanged m n l (entering p m c n l)) (registered_made p m c g h) h)
+pub late_made : (p : ℕ) (m : MemoryMap) (c : Claim) (n : ℕ) (l : List ℕ) → Page p → Made p m → Made p (late_of p m c n l).map
+unfolding late_of enter_of
+late_made p m c n l g h =
+    on_either (λ (a : After). Made p a.map) (judged p c.kind n l) _ (unchanged m n l (judged p c.kind n l))
+    (on_either (λ (a : After). Made p a.map) (entering p m c n l) (entered p m c n l) (unchanged m n l (entering p m c n l)) (registered_made p m c g h) h)
     h

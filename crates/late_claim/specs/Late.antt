@@ -6,13 +6,13 @@ use Rattle.entry.specs.declared.BootloaderMemoryKind.TheVariants.{Null, Free}
 use Rattle.entry.specs.Kind.{number_of, kind_of}
 use Rattle.entry.specs.Claim.{Claim, rounded}
 use Rattle.memory.specs.declared.MemoryMap.{MemoryMap}
-use Rattle.memory.specs.Map.{mapOf, nothing, registered}
+use Rattle.memory.specs.Map.{map_of, nothing, registered}
 use Rattle.memory.specs.Made.{Made}
-use Rattle.memory.specs.Run.{isDone}
+use Rattle.memory.specs.Run.{is_done}
 use Rattle.areas.specs.Interval.{Interval}
 use Rattle.areas.specs.Areas.{span}
 use Rattle.areas.specs.Table.{fits}
-use Rattle.lent_table.specs.Table.{tableIn, goodTable, tableWith}
+use Rattle.lent_table.specs.Table.{table_in, good_table, table_with}
 use Rattle.lent_table.specs.Less.{less}
 use Rattle.late_claim.specs.declared.LateAnswer.{LateAnswer}
 use Rattle.late_claim.specs.declared.LateAnswer.TheVariants.{Done, UnknownKind, NotLate, BadTable, MapFull, TooManyAreas}
@@ -20,39 +20,39 @@ use Rattle.late_claim.specs.declared.Late.{Late}
 use Rattle.late_claim.specs.declared.LateIn.{LateIn}
 
 -- "Refusals, in order: 1, 13 .., 14 .., 2, 3"; "0 is done." (document 01)
-abbrev pub lateNumber : LateAnswer → ℕ
-lateNumber Done = 0
-lateNumber UnknownKind = 1
-lateNumber NotLate = 13
-lateNumber BadTable = 14
-lateNumber MapFull = 2
-lateNumber TooManyAreas = 3
+abbrev pub late_number : LateAnswer → ℕ
+late_number Done = 0
+late_number UnknownKind = 1
+late_number NotLate = 13
+late_number BadTable = 14
+late_number MapFull = 2
+late_number TooManyAreas = 3
 
 -- ── What is left, and what is refused ──
 -- "its areas less the rounded claim"; a claim that registers nothing takes nothing away
-unfoldable pub lessClaim : ℕ → Claim → List Interval → List Interval
-lessClaim p c areas = cond (nothing p c) areas (less (span (rounded p c)) areas)
+unfoldable pub less_claim : ℕ → Claim → List Interval → List Interval
+less_claim p c areas = cond (nothing p c) areas (less (span (rounded p c)) areas)
 
 -- of the n areas in the numbers l
-abbrev pub areasLeft : ℕ → Claim → ℕ → List ℕ → List Interval
-areasLeft p c n l = lessClaim p c (tableIn n l)
+abbrev pub areas_left : ℕ → Claim → ℕ → List ℕ → List Interval
+areas_left p c n l = less_claim p c (table_in n l)
 
 -- "13 kind Null or Free"
 unfoldable pub never : ℕ → Bool
 never kind = eqb kind (number_of Null) || eqb kind (number_of Free)
 
 -- 1 comes first
-abbrev pub kindFirst : KindRead → LateAnswer → LateAnswer
-kindFirst Unknown a = UnknownKind
-kindFirst (Known k) a = a
+abbrev pub kind_first : KindRead → LateAnswer → LateAnswer
+kind_first Unknown a = UnknownKind
+kind_first (Known k) a = a
 
 -- 1, 13, 14
 unfoldable pub judged : ℕ → ℕ → ℕ → List ℕ → LateAnswer
-judged p kind n l = kindFirst (kind_of kind) (cond (never kind) NotLate (cond (goodTable p n l) Done BadTable))
+judged p kind n l = kind_first (kind_of kind) (cond (never kind) NotLate (cond (good_table p n l) Done BadTable))
 
 -- then 2, 3
 unfoldable pub entering : ℕ → MemoryMap → Claim → ℕ → List ℕ → LateAnswer
-entering p m c n l = cond (isDone (registered p m c).answer) (cond (fits (areasLeft p c n l) l) Done TooManyAreas) MapFull
+entering p m c n l = cond (is_done (registered p m c).answer) (cond (fits (areas_left p c n l) l) Done TooManyAreas) MapFull
 
 -- ── What is there afterwards ──
 -- the map, how many slots are used, the lent numbers, and the answer
@@ -62,13 +62,13 @@ pub record After : Type 0 where
   pub table : List ℕ
   pub answer : LateAnswer
 
-abbrev pub onDone : {A : Type 0} → LateAnswer → A → A → A
-onDone Done x y = x
-onDone UnknownKind x y = y
-onDone NotLate x y = y
-onDone BadTable x y = y
-onDone MapFull x y = y
-onDone TooManyAreas x y = y
+abbrev pub on_done : {A : Type 0} → LateAnswer → A → A → A
+on_done Done x y = x
+on_done UnknownKind x y = y
+on_done NotLate x y = y
+on_done BadTable x y = y
+on_done MapFull x y = y
+on_done TooManyAreas x y = y
 
 -- refusals "all leave map and table unchanged"
 abbrev pub unchanged : MemoryMap → ℕ → List ℕ → LateAnswer → After
@@ -79,25 +79,25 @@ abbrev pub entered : ℕ → MemoryMap → Claim → ℕ → List ℕ → After
 entered p m c n l =
     record {
       map = (registered p m c).map;
-      count = length (areasLeft p c n l);
-      table = tableWith (areasLeft p c n l) n l;
+      count = length (areas_left p c n l);
+      table = table_with (areas_left p c n l) n l;
       answer = Done;
     }
 
 -- after 1, 13 and 14 are checked
-unfoldable pub enterOf : ℕ → MemoryMap → Claim → ℕ → List ℕ → After
-enterOf p m c n l = onDone (entering p m c n l) (entered p m c n l) (unchanged m n l (entering p m c n l))
+unfoldable pub enter_of : ℕ → MemoryMap → Claim → ℕ → List ℕ → After
+enter_of p m c n l = on_done (entering p m c n l) (entered p m c n l) (unchanged m n l (entering p m c n l))
 
 -- A LATE CLAIM c on the map m and on the numbers l, of which n slots are used
-unfoldable pub lateOf : ℕ → MemoryMap → Claim → ℕ → List ℕ → After
-lateOf p m c n l = onDone (judged p c.kind n l) (enterOf p m c n l) (unchanged m n l (judged p c.kind n l))
+unfoldable pub late_of : ℕ → MemoryMap → Claim → ℕ → List ℕ → After
+late_of p m c n l = on_done (judged p c.kind n l) (enter_of p m c n l) (unchanged m n l (judged p c.kind n l))
 
 -- ── What the calls hand back, as that ──
 abbrev pub after : Late → List ℕ → After
 after r l = record { map = r.map; count = r.count; table = l; answer = r.answer }
 
-abbrev pub afterIn : LateIn → List ℕ → List ℕ → List ℕ → List ℕ → After
-afterIn r s e k l = record { map = mapOf s e k r.size; count = r.count; table = l; answer = r.answer }
+abbrev pub after_in : LateIn → List ℕ → List ℕ → List ℕ → List ℕ → After
+after_in r s e k l = record { map = map_of s e k r.size; count = r.count; table = l; answer = r.answer }
 
 -- what entering asks: a map made by our calls, and that 1, 13 and 14 are checked
 pub record Enters (p : ℕ) (m : MemoryMap) (kind n : ℕ) (l : List ℕ) : Type 0 where

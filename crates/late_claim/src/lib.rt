@@ -1,10 +1,10 @@
 // A claim that comes when the area table is finished: it enters the map, and the table is edited where it stands. Request L3 of document 02.
 ghost use Rattle.std.specs.Prelude.{◌≡◌, cond};
 ghost use Rattle.entry.specs.Claim.{claim};
-ghost use Rattle.memory.specs.Map.{mapOf};
-ghost use Rattle.memory.specs.Run.{isDone};
+ghost use Rattle.memory.specs.Map.{map_of};
+ghost use Rattle.memory.specs.Run.{is_done};
 ghost use Rattle.memory.specs.Made.{Made};
-ghost use Rattle.late_claim.specs.Late.{lateNumber, judged, enterOf, lateOf, after, afterIn, Enters};
+ghost use Rattle.late_claim.specs.Late.{late_number, judged, enter_of, late_of, after, after_in, Enters};
 
 use entry::KindRead;
 use memory::{Answer, MemoryMap};
@@ -22,7 +22,7 @@ pub enum LateAnswer {
 
 impl LateAnswer {
     pub fn number(self) -> u8
-        ensures { result ≡ lateNumber self }
+        ensures { result ≡ late_number self }
     {
         match self {
             LateAnswer::Done => 0,
@@ -69,7 +69,7 @@ pub fn judge(kind: u64, slots: &[u64], count: usize) -> LateAnswer
 
 // What a claim that no slot of the table is left for answers: where the map has none left for it either, that comes first.
 fn refused(answer: Answer) -> LateAnswer
-    ensures { result ≡ cond (isDone answer) LateAnswer.TooManyAreas LateAnswer.MapFull }
+    ensures { result ≡ cond (is_done answer) LateAnswer.TooManyAreas LateAnswer.MapFull }
 {
     match answer {
         Answer::Done => LateAnswer::TooManyAreas,
@@ -90,8 +90,8 @@ fn enter_in(
     slots: &mut [u64],
     count: usize,
 ) -> LateIn
-    requires { Enters 4096 (mapOf starts.old ends.old kinds.old held) kind count slots.old }
-    ensures { afterIn result starts.new ends.new kinds.new slots.new ≡ enterOf 4096 (mapOf starts.old ends.old kinds.old held) (claim base len kind) count slots.old }
+    requires { Enters 4096 (map_of starts.old ends.old kinds.old held) kind count slots.old }
+    ensures { after_in result starts.new ends.new kinds.new slots.new ≡ enter_of 4096 (map_of starts.old ends.old kinds.old held) (claim base len kind) count slots.old }
 {
     let done = LateIn {
         size: held,
@@ -148,8 +148,8 @@ pub fn claim_late_in(
     slots: &mut [u64],
     count: usize,
 ) -> LateIn
-    requires { Made 4096 (mapOf starts.old ends.old kinds.old held) }
-    ensures { afterIn result starts.new ends.new kinds.new slots.new ≡ lateOf 4096 (mapOf starts.old ends.old kinds.old held) (claim base len kind) count slots.old }
+    requires { Made 4096 (map_of starts.old ends.old kinds.old held) }
+    ensures { after_in result starts.new ends.new kinds.new slots.new ≡ late_of 4096 (map_of starts.old ends.old kinds.old held) (claim base len kind) count slots.old }
 {
     let answer = judge(kind, slots, count);
     if answer.number() != 0 {
@@ -172,7 +172,7 @@ pub fn claim_late(
     count: usize,
 ) -> Late
     requires { Made 4096 map }
-    ensures { after result slots.new ≡ lateOf 4096 map (claim base size kind) count slots.old }
+    ensures { after result slots.new ≡ late_of 4096 map (claim base size kind) count slots.old }
 {
     let mut starts = map.starts;
     let mut ends = map.ends;

@@ -9,24 +9,24 @@ use Rattle.words.specs.Little.{eight}
 use Rattle.entry.specs.Claim.{Claim, claim}
 use Rattle.memory.specs.declared.MemoryMap.{MemoryMap}
 use Rattle.memory.specs.Made.{Made}
-use Rattle.bootloader.specs.List.{claimAt, claimsAt, claims}
+use Rattle.bootloader.specs.List.{claim_at, claims_at, claims}
 use Rattle.late_claim.specs.declared.LateAnswer.TheVariants.{Done}
-use Rattle.late_claim.specs.Late.{lateNumber, After, lateOf}
-use Rattle.late_claim.proofs.Claiming.{zero-done, other}
-use Rattle.late_claim.proofs.MadeLaws.{late-made}
-use Rattle.late_run.specs.Run.{Run, run, stopped, lateAll}
+use Rattle.late_claim.specs.Late.{late_number, After, late_of}
+use Rattle.late_claim.proofs.Claiming.{zero_done, other}
+use Rattle.late_claim.proofs.MadeLaws.{late_made}
+use Rattle.late_run.specs.Run.{Run, run, stopped, late_all}
 
 -- ── One claim of a run ──
-module _ (p : ℕ) (m : MemoryMap) (n : ℕ) (l : List ℕ) (i : ℕ) (c : Claim) (cs : List Claim) (a : After) (is : a ≡ lateOf p m c n l) where
-  pub run_on : lateNumber a.answer ≡ 0 → lateAll p m n l i (c ∷ cs) ≡ lateAll p a.map a.count a.table (i + 1) cs
-  unfolding lateAll
+module _ (p : ℕ) (m : MemoryMap) (n : ℕ) (l : List ℕ) (i : ℕ) (c : Claim) (cs : List Claim) (a : After) (is : a ≡ late_of p m c n l) where
+  pub run_on : late_number a.answer ≡ 0 → late_all p m n l i (c ∷ cs) ≡ late_all p a.map a.count a.table (i + 1) cs
+  unfolding late_all
   run_on z =
-      let done : (lateOf p m c n l).answer ≡ Done = ap (λ (x : After). x.answer) (sym is) ∙ zero-done a.answer z in
+      let done : (late_of p m c n l).answer ≡ Done = ap (λ (x : After). x.answer) (sym is) ∙ zero_done a.answer z in
       rw (is, done)
 
-  pub run-stops : (lateNumber a.answer ≡ 0 → ⊥) → lateAll p m n l i (c ∷ cs) ≡ stopped a i
-  unfolding lateAll
-  run-stops f = rw is (other (lateOf p m c n l).answer (λ z. f (ap (λ (x : After). lateNumber x.answer) is ∙ z)) _ (stopped (lateOf p m c n l) i))
+  pub run_stops : (late_number a.answer ≡ 0 → ⊥) → late_all p m n l i (c ∷ cs) ≡ stopped a i
+  unfolding late_all
+  run_stops f = rw is (other (late_of p m c n l).answer (λ z. f (ap (λ (x : After). late_number x.answer) is ∙ z)) _ (stopped (late_of p m c n l) i))
 
 -- ── The loop, at claim i of the k in the bytes t ──
 pub record Running (p : ℕ) (t : List ℕ) (k : ℕ) (goal : Run) (m : MemoryMap) (n : ℕ) (l : List ℕ) (size i : ℕ) : Type 0 where
@@ -34,37 +34,37 @@ pub record Running (p : ℕ) (t : List ℕ) (k : ℕ) (goal : Run) (m : MemoryMa
   pub bytes : k * 24 ≤ length t
   pub made : Made p m
   pub same : length l ≡ size
-  pub left : lateAll p m n l i (claimsAt t (k - i) i) ≡ goal
+  pub left : late_all p m n l i (claims_at t (k - i) i) ≡ goal
 
-pub runs : (p : ℕ) (t : List ℕ) (m : MemoryMap) (n : ℕ) (l : List ℕ) → Made p m → Running p t (length t / 24) (lateAll p m n l 0 (claims t)) m n l (length l) 0
+pub runs : (p : ℕ) (t : List ℕ) (m : MemoryMap) (n : ℕ) (l : List ℕ) → Made p m → Running p t (length t / 24) (late_all p m n l 0 (claims t)) m n l (length l) 0
 runs p t m n l made =
     let e : length t / 24 - 0 ≡ length t / 24 = omega arith in
     record { at = omega arith; bytes = omega arith; made = made; same = refl; left = rw e }
 
 module _ {p : ℕ} {t : List ℕ} {k : ℕ} {goal : Run} {m : MemoryMap} {n : ℕ} {l : List ℕ} {size i : ℕ} (inv : Running p t k goal m n l size i) where
-  pub runs-end : k ≤ i → run m n l i Done ≡ goal
-  unfolding lateAll claimsAt
-  runs-end h = let e : k - i ≡ 0 = omega arith in rw e at inv.left
+  pub runs_end : k ≤ i → run m n l i Done ≡ goal
+  unfolding late_all claims_at
+  runs_end h = let e : k - i ≡ 0 = omega arith in rw e at inv.left
 
   -- a is what the call of claim i left
   module _ (lt : i < k) {a : After} {x y z : ℕ} (xs : x ≡ eight t (i * 24)) (ys : y ≡ eight t (i * 24 + 8)) (zs : z ≡ eight t (i * 24 + 16))
-      (given : a ≡ lateOf p m (claim x y z) n l) where
-    told : a ≡ lateOf p m (claimAt t i) n l
+      (given : a ≡ late_of p m (claim x y z) n l) where
+    told : a ≡ late_of p m (claim_at t i) n l
     told = rw (xs, ys, zs) at given
 
-    turn : lateAll p m n l i (claimAt t i ∷ claimsAt t (k - (i + 1)) (i + 1)) ≡ goal
-    unfolding claimsAt
+    turn : late_all p m n l i (claim_at t i ∷ claims_at t (k - (i + 1)) (i + 1)) ≡ goal
+    unfolding claims_at
     turn = let e : k - i ≡ suc (k - (i + 1)) = omega arith in rw e at inv.left
 
-    pub runs_on : Page p → lateNumber a.answer ≡ 0 → length a.table ≡ length l → Running p t k goal a.map a.count a.table size (i + 1)
+    pub runs_on : Page p → late_number a.answer ≡ 0 → length a.table ≡ length l → Running p t k goal a.map a.count a.table size (i + 1)
     runs_on g zero e =
         record {
           at = omega arith;
           bytes = inv.bytes;
-          made = rw told (late-made p m (claimAt t i) n l g inv.made);
+          made = rw told (late_made p m (claim_at t i) n l g inv.made);
           same = e ∙ inv.same;
-          left = sym (run_on p m n l i (claimAt t i) _ a told zero) ∙ turn;
+          left = sym (run_on p m n l i (claim_at t i) _ a told zero) ∙ turn;
         }
 
-    pub runs-stop : (lateNumber a.answer ≡ 0 → ⊥) → stopped a i ≡ goal
-    runs-stop f = sym (run-stops p m n l i (claimAt t i) _ a told f) ∙ turn
+    pub runs_stop : (late_number a.answer ≡ 0 → ⊥) → stopped a i ≡ goal
+    runs_stop f = sym (run_stops p m n l i (claim_at t i) _ a told f) ∙ turn

@@ -1,9 +1,9 @@
 // Late claims one after the other, up to the first that is refused: request L3 of document 02, its program's claims.
 ghost use Rattle.std.specs.Prelude.{◌≡◌};
-ghost use Rattle.memory.specs.Map.{mapOf};
+ghost use Rattle.memory.specs.Map.{map_of};
 ghost use Rattle.memory.specs.Made.{Made};
 ghost use Rattle.bootloader.specs.List.{claims};
-ghost use Rattle.late_run.specs.Run.{lateAll, ran, ranIn};
+ghost use Rattle.late_run.specs.Run.{late_all, ran, ran_in};
 
 use late_claim::LateAnswer;
 use memory::MemoryMap;
@@ -38,8 +38,8 @@ pub fn claim_all_in(
     count: usize,
     list: &[u8],
 ) -> LateRunIn
-    requires { Made 4096 (mapOf starts.old ends.old kinds.old size) }
-    ensures { ranIn result starts.new ends.new kinds.new slots.new ≡ lateAll 4096 (mapOf starts.old ends.old kinds.old size) count slots.old 0 (claims list.now) }
+    requires { Made 4096 (map_of starts.old ends.old kinds.old size) }
+    ensures { ran_in result starts.new ends.new kinds.new slots.new ≡ late_all 4096 (map_of starts.old ends.old kinds.old size) count slots.old 0 (claims list.now) }
 {
     let mut held = size;
     let mut used = count;
@@ -75,7 +75,7 @@ pub fn claim_all_in(
 // The same on a map by value.
 pub fn claim_all(map: MemoryMap, slots: &mut [u64], count: usize, list: &[u8]) -> LateRun
     requires { Made 4096 map }
-    ensures { ran result slots.new ≡ lateAll 4096 map count slots.old 0 (claims list.now) }
+    ensures { ran result slots.new ≡ late_all 4096 map count slots.old 0 (claims list.now) }
 {
     let mut starts = map.starts;
     let mut ends = map.ends;

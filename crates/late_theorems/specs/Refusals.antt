@@ -4,13 +4,13 @@ use Rattle.entry.specs.declared.BootloaderMemoryKind.TheVariants.{Null, Free}
 use Rattle.entry.specs.Kind.{number_of, IsKind}
 use Rattle.entry.specs.Claim.{Claim}
 use Rattle.memory.specs.declared.MemoryMap.{MemoryMap}
-use Rattle.areas.specs.Table.{slotsIn}
-use Rattle.demand3.specs.Slots.{numberSlot, WholeSlot}
-use Rattle.late_claim.specs.Late.{lateNumber, lateOf}
+use Rattle.areas.specs.Table.{slots_in}
+use Rattle.demand3.specs.Slots.{number_slot, WholeSlot}
+use Rattle.late_claim.specs.Late.{late_number, late_of}
 
 -- the number that a late claim is answered with
-abbrev pub lateGives : ℕ → MemoryMap → Claim → ℕ → List ℕ → ℕ
-lateGives p m c n l = lateNumber (lateOf p m c n l).answer
+abbrev pub late_gives : ℕ → MemoryMap → Claim → ℕ → List ℕ → ℕ
+late_gives p m c n l = late_number (late_of p m c n l).answer
 
 -- "kind Null or Free"
 abbrev pub NullOrFree : Claim → Type 0
@@ -24,8 +24,8 @@ pub record LateKind (c : Claim) : Type 0 where
 -- what 14 asks of the first n slots of the numbers l, slot by slot
 pub record TableStands (p n : ℕ) (l : List ℕ) : Type 0 where
   -- not "count above the slots"
-  pub count : n ≤ slotsIn l
+  pub count : n ≤ slots_in l
   -- "aligned, nonempty, .. ending at or below T"
-  pub whole : (i : ℕ) → i < n → WholeSlot p (numberSlot l i)
+  pub whole : (i : ℕ) → i < n → WholeSlot p (number_slot l i)
   -- "ascending, .. apart without touching"
-  pub apart : (i : ℕ) → suc i < n → (numberSlot l i).base + (numberSlot l i).size < (numberSlot l (suc i)).base
+  pub apart : (i : ℕ) → suc i < n → (number_slot l i).base + (number_slot l i).size < (number_slot l (suc i)).base

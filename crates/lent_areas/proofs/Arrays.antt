@@ -22,15 +22,15 @@ module _ {M : Type 1} {𝓤 : Ura M} (𝓛 : Logic 𝓤) (R : RattleType) (vals 
   abbrev ty : Ty
   ty = ty_array (lone R.mir) n
 
-  pub whole-lies : Is (Array R n) ys (array_vals vals ys) → ent 𝓤 (H.at full_share ty l 0 (only (array_vals vals ys))) (sem 𝓛 (part_at (Array R n) full_share ys l 0))
+  pub whole_lies : Is (Array R n) ys (array_vals vals ys) → ent 𝓤 (H.at full_share ty l 0 (only (array_vals vals ys))) (sem 𝓛 (part_at (Array R n) full_share ys l 0))
   unfolding part_of
-  whole-lies is =
+  whole_lies is =
       qed 𝓛 (‵ (fat full_share ty l 0 (only (array_vals vals ys))) ∷ []) ∵ use1 𝓛 (‵ (cell_at full_share (Array R n).mir (array_vals vals ys) l 0)) (𝓛.laws.at_raw full_share ty l 0 (only (array_vals vals ys))) $
       owned ! (Array R n) (Is (Array R n)) (Array-Makes 𝓛 R mk n) ys (array_vals vals ys) is $ move ! (1 ∷ 0 ∷ []) $ fjoin ! $
       fpack ! (List Val) (λ us. fsep (cell_at full_share (Array R n).mir us l 0) ((Array R n).own_val ys us)) (array_vals vals ys) $ done !
 
-  pub whole-read : ent 𝓤 (sem 𝓛 (part_at (Array R n) full_share ys l 0)) (guard 𝓤 (Is (Array R n) ys (array_vals vals ys)) (H.at full_share ty l 0 (only (array_vals vals ys))))
+  pub whole_read : ent 𝓤 (sem 𝓛 (part_at (Array R n) full_share ys l 0)) (guard 𝓤 (Is (Array R n) ys (array_vals vals ys)) (H.at full_share ty l 0 (only (array_vals vals ys))))
   unfolding part_of
-  whole-read =
+  whole_read =
       qed 𝓛 (‵ (part_at (Array R n) full_share ys l 0) ∷ []) ∵ fpick ! (λ vs. fsplit ! $ spelt ! (Array R n) (Is (Array R n)) (shows 𝓛 (Array R n)) (array_vals vals) (Array-Tells R vals tl n) full_share ys vs l 0 $
       move ! (1 ∷ []) $ facts ! (Array R n) (Is (Array R n)) (shows 𝓛 (Array R n)) ys (array_vals vals ys) (λ is. use1 𝓛 (‵ (fat full_share ty l 0 (only (array_vals vals ys)))) (𝓛.laws.raw_at full_share ty l 0 (only (array_vals vals ys))) $ check ! is $ done !))

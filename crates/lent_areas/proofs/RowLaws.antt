@@ -15,85 +15,85 @@ use Rattle.areas.specs.declared.Limit.{Limit}
 use Rattle.areas.specs.declared.Built.{Built}
 use Rattle.areas.specs.declared.Built.TheVariants.{Done, TooManyAreas}
 use Rattle.areas.specs.Interval.{Interval, interval}
-use Rattle.areas.specs.Areas.{areasOf}
-use Rattle.areas.specs.Table.{flat, answer_of, table_of, builtNumber}
-use Rattle.areas.proofs.MadeLaws.{areasOf-few}
-use Rattle.areas.proofs.Writing.{flat-length}
+use Rattle.areas.specs.Areas.{areas_of}
+use Rattle.areas.specs.Table.{flat, answer_of, table_of, built_number}
+use Rattle.areas.proofs.MadeLaws.{areas_of_few}
+use Rattle.areas.proofs.Writing.{flat_length}
 use Rattle.lent_areas.specs.declared.MemoryArea.{MemoryArea}
 use Rattle.lent_areas.specs.declared.AreaTable.{AreaTable}
-use Rattle.lent_areas.specs.Row.{areaOf, areaAt, rowCount, row_of, Finished}
+use Rattle.lent_areas.specs.Row.{area_of, area_at, row_count, row_of, Finished}
 
 -- ── The row with areas stored ──
 
 -- the row with the first n pairs of a table in its slots
 abbrev pub laid : List MemoryArea → List ℕ → ℕ → List MemoryArea
 laid row slots zero = row
-laid row slots (suc n) = set (laid row slots n) n (areaAt slots n)
+laid row slots (suc n) = set (laid row slots n) n (area_at slots n)
 
-pub length-laid : (row : List MemoryArea) (slots : List ℕ) (n : ℕ) → length (laid row slots n) ≡ length row
-length-laid row slots zero = refl
-length-laid row slots (suc n) = length-set (laid row slots n) n (areaAt slots n) ∙ length-laid row slots n
+pub length_laid : (row : List MemoryArea) (slots : List ℕ) (n : ℕ) → length (laid row slots n) ≡ length row
+length_laid row slots zero = refl
+length_laid row slots (suc n) = length-set (laid row slots n) n (area_at slots n) ∙ length_laid row slots n
 
 -- what stands for an area past the last
 abbrev pub none : Interval
 none = interval 0 0
 
 -- pair i of the areas' numbers is area i
-pub flat-at : (areas : List Interval) (i : ℕ) → i < length areas → areaAt (flat areas) i ≡ areaOf (get_or areas i none)
+pub flat_at : (areas : List Interval) (i : ℕ) → i < length areas → area_at (flat areas) i ≡ area_of (get_or areas i none)
 unfolding flat
-flat-at [] i h = absurd (omega arith)
-flat-at (r ∷ areas) zero h = refl
-flat-at (r ∷ areas) (suc i) h =
+flat_at [] i h = absurd (omega arith)
+flat_at (r ∷ areas) zero h = refl
+flat_at (r ∷ areas) (suc i) h =
     let twice : suc i + suc i ≡ suc (suc (i + i)) = omega arith in
     let after : suc i + suc i + 1 ≡ suc (suc (i + i + 1)) = omega arith in
-    ap₂ (λ (j k : ℕ). record { base = get_or (flat (r ∷ areas)) j 0; size = get_or (flat (r ∷ areas)) k 0 }) twice after ∙ flat-at areas i (omega arith)
+    ap₂ (λ (j k : ℕ). record { base = get_or (flat (r ∷ areas)) j 0; size = get_or (flat (r ∷ areas)) k 0 }) twice after ∙ flat_at areas i (omega arith)
 
 -- only the front is read
-front_at : (slots : List ℕ) (n i : ℕ) → i < n → areaAt (take (n + n) slots) i ≡ areaAt slots i
+front_at : (slots : List ℕ) (n i : ℕ) → i < n → area_at (take (n + n) slots) i ≡ area_at slots i
 front_at slots n i h = rw (get_or-take (n + n) slots (i + i) 0 (omega arith), get_or-take (n + n) slots (i + i + 1) 0 (omega arith))
 
 module _ (areas : List Interval) (row : List MemoryArea) (slots : List ℕ) (fits : length areas ≤ length row)
     (front : take (length areas + length areas) slots ≡ take (length areas + length areas) (flat areas)) where
-  pair_is : (i : ℕ) → i < length areas → areaAt slots i ≡ areaOf (get_or areas i none)
+  pair_is : (i : ℕ) → i < length areas → area_at slots i ≡ area_of (get_or areas i none)
   pair_is i h =
-      sym (front_at slots (length areas) i h) ∙ ap (λ (l : List ℕ). areaAt l i) front ∙ front_at (flat areas) (length areas) i h ∙ flat-at areas i h
+      sym (front_at slots (length areas) i h) ∙ ap (λ (l : List ℕ). area_at l i) front ∙ front_at (flat areas) (length areas) i h ∙ flat_at areas i h
 
   -- once the first k are stored
-  laid-front : (k : ℕ) → k ≤ length areas → laid row slots k ≡ take k (map areaOf areas) ++ drop k row
-  laid-front zero h = refl
-  laid-front (suc k) h =
+  laid_front : (k : ℕ) → k ≤ length areas → laid row slots k ≡ take k (map area_of areas) ++ drop k row
+  laid_front zero h = refl
+  laid_front (suc k) h =
       let some : MemoryArea = record { base = 0; size = 0 } in
-      let in-areas : k < length (map areaOf areas) = omega (arith, length-map areas areaOf) in
+      let in_areas : k < length (map area_of areas) = omega (arith, length-map areas area_of) in
       let in_row : k < length row = omega arith in
-      let here : length (take k (map areaOf areas)) ≡ k = length-take-le k (map areaOf areas) (omega (arith, length-map areas areaOf)) in
-      ap (λ (l : List MemoryArea). set l k (areaAt slots k)) (laid-front k (omega arith) ∙ ap (λ (l : List MemoryArea). take k (map areaOf areas) ++ l) (drop-cons row k some in_row))
-      ∙ set_at (take k (map areaOf areas)) (get_or row k some) (drop (suc k) row) (areaAt slots k) k here
-      ∙ ap (λ (a : MemoryArea). take k (map areaOf areas) ++ a ∷ drop (suc k) row) (pair_is k (omega arith) ∙ sym (get_or-map areaOf areas k none))
-      ∙ sym (append_snoc (take k (map areaOf areas)) (get_or (map areaOf areas) k (areaOf none)) (drop (suc k) row))
-      ∙ ap (λ (l : List MemoryArea). l ++ drop (suc k) row) (sym (take-suc (map areaOf areas) k (areaOf none) in-areas))
+      let here : length (take k (map area_of areas)) ≡ k = length-take-le k (map area_of areas) (omega (arith, length-map areas area_of)) in
+      ap (λ (l : List MemoryArea). set l k (area_at slots k)) (laid_front k (omega arith) ∙ ap (λ (l : List MemoryArea). take k (map area_of areas) ++ l) (drop-cons row k some in_row))
+      ∙ set_at (take k (map area_of areas)) (get_or row k some) (drop (suc k) row) (area_at slots k) k here
+      ∙ ap (λ (a : MemoryArea). take k (map area_of areas) ++ a ∷ drop (suc k) row) (pair_is k (omega arith) ∙ sym (get_or-map area_of areas k none))
+      ∙ sym (append_snoc (take k (map area_of areas)) (get_or (map area_of areas) k (area_of none)) (drop (suc k) row))
+      ∙ ap (λ (l : List MemoryArea). l ++ drop (suc k) row) (sym (take-suc (map area_of areas) k (area_of none) in_areas))
 
-  pub laid-is-row : laid row slots (length areas) ≡ map areaOf areas ++ drop (length areas) row
-  laid-is-row =
-      laid-front (length areas) (omega arith)
-      ∙ ap (λ (l : List MemoryArea). l ++ drop (length areas) row) (take_all (length areas) (map areaOf areas) (omega (arith, length-map areas areaOf)))
+  pub laid_is_row : laid row slots (length areas) ≡ map area_of areas ++ drop (length areas) row
+  laid_is_row =
+      laid_front (length areas) (omega arith)
+      ∙ ap (λ (l : List MemoryArea). l ++ drop (length areas) row) (take_all (length areas) (map area_of areas) (omega (arith, length-map areas area_of)))
 
 -- what a finished table lays is the row that is asked for
-pub laid-finished : (areas : List Interval) (row : List MemoryArea) (t : AreaTable) → Finished areas (length row) t → laid row t.slots t.count ≡ row_of areas row
-unfolding rowCount
-laid-finished areas row t d = go (leb (length areas) (length row)) refl
+pub laid_finished : (areas : List Interval) (row : List MemoryArea) (t : AreaTable) → Finished areas (length row) t → laid row t.slots t.count ≡ row_of areas row
+unfolding row_count
+laid_finished areas row t d = go (leb (length areas) (length row)) refl
   where
-    go : (b : Bool) → leb (length areas) (length row) ≡ b → laid row t.slots t.count ≡ cond b (map areaOf areas ++ drop (length areas) row) row
+    go : (b : Bool) → leb (length areas) (length row) ≡ b → laid row t.slots t.count ≡ cond b (map area_of areas ++ drop (length areas) row) row
     go true e =
         let count : t.count ≡ length areas = d.count ∙ ap (λ (b : Bool). cond b (length areas) 0) e in
         ap (laid row t.slots) count
-        ∙ laid-is-row areas row t.slots (leb-true (length areas) (length row) e)
+        ∙ laid_is_row areas row t.slots (leb-true (length areas) (length row) e)
         (subst (λ (n : ℕ). take (n + n) t.slots ≡ take (n + n) (flat areas)) count d.slots)
     go false e = ap (laid row t.slots) (d.count ∙ ap (λ (b : Bool). cond b (length areas) 0) e)
 
 -- ── The table that the areas are built in ──
 
-pub few-areas : {p : ℕ} {m : MemoryMap} → Made p m → (low high : Limit) → length (areasOf p low high m) ≤ 512
-few-areas made low high = omega (arith, areasOf-few made low high, made.room)
+pub few_areas : {p : ℕ} {m : MemoryMap} → Made p m → (low high : Limit) → length (areas_of p low high m) ≤ 512
+few_areas made low high = omega (arith, areas_of_few made low high, made.room)
 
 module _ (areas : List Interval) (few : length areas ≤ 512) (l : List ℕ) (size : length l ≡ 1024) where
   all_fit : leb (length areas) (length l / 2) ≡ true
@@ -108,12 +108,12 @@ module _ (areas : List Interval) (few : length areas ≤ 512) (l : List ℕ) (si
   written = ap (λ (b : Bool). cond b (flat areas ++ drop (length areas + length areas) l) l) all_fit
 
   -- it has a slot for each of them
-  pub never-refused : TooManyAreas ≡ answer_of areas l → ⊥
-  never-refused e = let clash : ◌≡◌ {A = ℕ} 3 0 = ap builtNumber (e ∙ answered) in omega arith
+  pub never_refused : TooManyAreas ≡ answer_of areas l → ⊥
+  never_refused e = let clash : ◌≡◌ {A = ℕ} 3 0 = ap built_number (e ∙ answered) in omega arith
 
   module _ {n : ℕ} (e : Done n ≡ answer_of areas l) where
-    count-is : n ≡ length areas
-    count-is = ap count_of (e ∙ answered)
+    count_is : n ≡ length areas
+    count_is = ap count_of (e ∙ answered)
       where
         count_of : Built → ℕ
         count_of (Done k) = k
@@ -121,20 +121,20 @@ module _ (areas : List Interval) (few : length areas ≤ 512) (l : List ℕ) (si
 
     -- the row has fewer slots than there are areas
     pub refuses : {room : ℕ} (l' : List ℕ) → room < n → Finished areas room (record { slots = l'; count = 0; answer = TooManyAreas })
-    unfolding rowCount
+    unfolding row_count
     refuses {room} l' h =
-        let over : leb (length areas) room ≡ false = lt-leb (length areas) room (omega (arith, count-is)) in
+        let over : leb (length areas) room ≡ false = lt-leb (length areas) room (omega (arith, count_is)) in
         record { answer = rw over; count = rw over; most = omega arith; fits = omega arith; slots = refl }
 
     -- the row has a slot for each
     pub finishes : {room : ℕ} {l' : List ℕ} → n ≤ room → l' ≡ table_of areas l → Finished areas room (record { slots = l'; count = n; answer = Done n })
-    unfolding rowCount
+    unfolding row_count
     finishes {room} h t =
-        let within : leb (length areas) room ≡ true = le-leb (length areas) room (omega (arith, count-is)) in
+        let within : leb (length areas) room ≡ true = le-leb (length areas) room (omega (arith, count_is)) in
         record {
-          answer = rw within (ap Done count-is);
-          count = rw within count-is;
-          most = omega (arith, few, count-is);
+          answer = rw within (ap Done count_is);
+          count = rw within count_is;
+          most = omega (arith, few, count_is);
           fits = h;
-          slots = ap (take (n + n)) (t ∙ written) ∙ take-append-le (n + n) (flat areas) (drop (length areas + length areas) l) (omega (arith, flat-length areas, count-is));
+          slots = ap (take (n + n)) (t ∙ written) ∙ take-append-le (n + n) (flat areas) (drop (length areas + length areas) l) (omega (arith, flat_length areas, count_is));
         }

@@ -19,11 +19,11 @@ use Rattle.lent_areas.proofs.MemoryArea.TheLaws as T'
 abbrev pub vals : MemoryArea → List Val
 vals = LL.vals T.the_type T'.the_laws
 
-abbrev pub n-vals : MemoryMap → List Val
-n-vals = LL.vals N.the_type N'.the_laws
+abbrev pub n_vals : MemoryMap → List Val
+n_vals = LL.vals N.the_type N'.the_laws
 
-abbrev pub l-vals : Limit → List Val
-l-vals = EL.vals L.the_type L'.the_laws
+abbrev pub l_vals : Limit → List Val
+l_vals = EL.vals L.the_type L'.the_laws
 
-abbrev pub r-vals : Built → List Val
-r-vals = EL.vals R.the_type R'.the_laws
+abbrev pub r_vals : Built → List Val
+r_vals = EL.vals R.the_type R'.the_laws

@@ -1,8 +1,8 @@
 // The finished areas in a lent row of area records: document 01, "then a lent row of area records". The build in number slots does the work.
 ghost use Rattle.std.specs.Prelude.{◌≡◌, ◌<◌};
 ghost use Rattle.memory.specs.Made.{Made};
-ghost use Rattle.areas.specs.Areas.{areasOf};
-ghost use Rattle.lent_areas.specs.Row.{areaAt, Finished, BuildsRow};
+ghost use Rattle.areas.specs.Areas.{areas_of};
+ghost use Rattle.lent_areas.specs.Row.{area_at, Finished, BuildsRow};
 
 use areas::{Built, Limit};
 use memory::MemoryMap;
@@ -25,7 +25,7 @@ struct AreaTable {
 // The table for a row with so much room.
 fn table_for(map: MemoryMap, low: Limit, high: Limit, room: usize) -> AreaTable
     requires { Made 4096 map }
-    ensures { Finished (areasOf 4096 low high map) room result }
+    ensures { Finished (areas_of 4096 low high map) room result }
 {
     let mut slots = [0u64; 1024];
     match areas::build(map, low, high, &mut slots) {
@@ -54,7 +54,7 @@ fn table_for(map: MemoryMap, low: Limit, high: Limit, room: usize) -> AreaTable
 // Area i of a table's numbers, which are lent, so that no area costs a copy of them.
 fn area_of(slots: &[u64; 1024], i: usize) -> MemoryArea
     requires { i < 512 }
-    ensures { result ≡ areaAt slots.now i }
+    ensures { result ≡ area_at slots.now i }
 {
     MemoryArea {
         base: slots[i + i],

@@ -1,6 +1,6 @@
 -- What the walks of both functions use. Both have base, size and kind in the locals 2, 3 and 4.
 --     map-vals, answer-vals, result-vals      how a value is written in the machine.        map-fits, answer-fits, result_fits      a local of its type takes it
---     map_of, answer-of, result-of            a result is a map and an answer, and a map and an answer make a result
+--     map_of_lem, answer-of, result-of            a result is a map and an answer, and a map and an answer make a result
 --     number, number_fits      the number that is passed in local i
 --     Numbers, numbers         what is owned of the numbers of three locals, and that it is had for nothing
 --     local        an operand that is a local is read, whichever it is: local i stands 2 · i places before `top`. So a walk goes where the code goes, and it is the callee's word on the numbers passed that must be the contract's
@@ -36,30 +36,30 @@ use Rattle.memory.proofs.Registered.TheLaws as Result'
 use Rattle.memory.specs.contracts.Answer as Ans
 use Rattle.memory.proofs.Answer.TheLaws as Ans'
 
-abbrev pub map-vals : MemoryMap → List Val
-map-vals = LL.vals Map.the_type Map'.the_laws
+abbrev pub map_vals : MemoryMap → List Val
+map_vals = LL.vals Map.the_type Map'.the_laws
 
-abbrev pub answer-vals : Answer → List Val
-answer-vals = EL.vals Ans.the_type Ans'.the_laws
+abbrev pub answer_vals : Answer → List Val
+answer_vals = EL.vals Ans.the_type Ans'.the_laws
 
-abbrev pub result-vals : Registered → List Val
-result-vals = LL.vals Result.the_type Result'.the_laws
+abbrev pub result_vals : Registered → List Val
+result_vals = LL.vals Result.the_type Result'.the_laws
 
-pub map_of : (r : Registered) (v : Val) → Is Result.the_row r (v ∷ []) → Is Map.the_row r.map (map-vals r.map)
-map_of r v is = (LL.owed Result.the_type Result'.the_laws r (v ∷ []) is).0
+pub map_of_lem : (r : Registered) (v : Val) → Is Result.the_row r (v ∷ []) → Is Map.the_row r.map (map_vals r.map)
+map_of_lem r v is = (LL.owed Result.the_type Result'.the_laws r (v ∷ []) is).0
 
-pub answer-of : (r : Registered) (v : Val) → Is Result.the_row r (v ∷ []) → Is Ans.the_row r.answer (answer-vals r.answer)
-answer-of r v is = (LL.owed Result.the_type Result'.the_laws r (v ∷ []) is).1.0
+pub answer_of_lem : (r : Registered) (v : Val) → Is Result.the_row r (v ∷ []) → Is Ans.the_row r.answer (answer_vals r.answer)
+answer_of_lem r v is = (LL.owed Result.the_type Result'.the_laws r (v ∷ []) is).1.0
 
-pub result-of : (r : Registered) → Is Map.the_row r.map (map-vals r.map) → Is Ans.the_row r.answer (answer-vals r.answer) → Is Result.the_row r (result-vals r)
-result-of r m a = LL.owes Result.the_type Result'.the_laws r (m, (a, tt))
+pub result_of : (r : Registered) → Is Map.the_row r.map (map_vals r.map) → Is Ans.the_row r.answer (answer_vals r.answer) → Is Result.the_row r (result_vals r)
+result_of r m a = LL.owes Result.the_type Result'.the_laws r (m, (a, tt))
 
 module _ {M : Type 1} {𝓤 : Ura M} (𝓛 : Logic 𝓤) where
-  pub map-fits : (z : MemoryMap) (v : Val) → Is Map.the_row z (v ∷ []) → T (has_ty Map'.mir v) × WT v
-  map-fits z v is = ((LL.lawful Map.the_type Map'.the_laws 𝓛).typed z (v ∷ []) is).0
+  pub map_fits : (z : MemoryMap) (v : Val) → Is Map.the_row z (v ∷ []) → T (has_ty Map'.mir v) × WT v
+  map_fits z v is = ((LL.lawful Map.the_type Map'.the_laws 𝓛).typed z (v ∷ []) is).0
 
-  pub answer-fits : (z : Answer) (v : Val) → Is Ans.the_row z (v ∷ []) → T (has_ty Ans'.mir v) × WT v
-  answer-fits z v is = ((EL.lawful Ans.the_type Ans'.the_laws 𝓛 tt).typed z (v ∷ []) is).0
+  pub answer_fits : (z : Answer) (v : Val) → Is Ans.the_row z (v ∷ []) → T (has_ty Ans'.mir v) × WT v
+  answer_fits z v is = ((EL.lawful Ans.the_type Ans'.the_laws 𝓛 tt).typed z (v ∷ []) is).0
 
   pub result_fits : (z : Registered) (v : Val) → Is Result.the_row z (v ∷ []) → T (has_ty Result'.mir v) × WT v
   result_fits z v is = ((LL.lawful Result.the_type Result'.the_laws 𝓛).typed z (v ∷ []) is).0

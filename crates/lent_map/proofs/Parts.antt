@@ -31,43 +31,43 @@ use Rattle.memory.specs.declared.MemoryMap.{MemoryMap}
 use Rattle.memory.specs.declared.Registered.{Registered}
 use Rattle.memory.specs.contracts.MemoryMap as Map
 use Rattle.memory.proofs.MemoryMap.TheLaws as Map'
-use Rattle.lent_map.proofs.Lent.{map-vals, answer-vals, result-vals}
+use Rattle.lent_map.proofs.Lent.{map_vals, answer_vals, result_vals}
 
 abbrev pub column : MemoryMap → ℕ → List ℕ
 column z zero = z.starts
 column z (suc zero) = z.ends
 column z (suc (suc k)) = z.kinds
 
-pub column-val : MemoryMap → ℕ → Val
-column-val z k = (Map'.the_laws).0.val (map (λ (n : ℕ). n) (column z k))
+pub column_val : MemoryMap → ℕ → Val
+column_val z k = (Map'.the_laws).0.val (map (λ (n : ℕ). n) (column z k))
 
 abbrev pub gathered : MemoryMap → ℕ → ℕ → ℕ → MemoryMap
 gathered z i j l = record { starts = column z i; ends = column z j; kinds = column z l; size = z.size }
 
-abbrev pub gathered-val : MemoryMap → ℕ → ℕ → ℕ → Val
-gathered-val z i j l = vstruct (of_list (column-val z i ∷ column-val z j ∷ column-val z l ∷ vint w64 z.size ∷ []))
+abbrev pub gathered_val : MemoryMap → ℕ → ℕ → ℕ → Val
+gathered_val z i j l = vstruct (of_list (column_val z i ∷ column_val z j ∷ column_val z l ∷ vint w64 z.size ∷ []))
 
-pub apart : (z : MemoryMap) → only (map-vals z) ≡ gathered-val z 0 1 2
-unfolding column-val
+pub apart : (z : MemoryMap) → only (map_vals z) ≡ gathered_val z 0 1 2
+unfolding column_val
 apart z = refl
 
-pub together : (z : MemoryMap) (i j l : ℕ) → gathered z i j l ≡ z → gathered-val z i j l ≡ only (map-vals z)
-unfolding column-val
-together z i j l e = ap (λ (d : MemoryMap). only (map-vals d)) e
+pub together : (z : MemoryMap) (i j l : ℕ) → gathered z i j l ≡ z → gathered_val z i j l ≡ only (map_vals z)
+unfolding column_val
+together z i j l e = ap (λ (d : MemoryMap). only (map_vals d)) e
 
-pub result-apart : (r : Registered) → only (result-vals r) ≡ vstruct (of_list (gathered-val r.map 0 1 2 ∷ only (answer-vals r.answer) ∷ []))
-unfolding column-val
-result-apart r = refl
+pub result_apart : (r : Registered) → only (result_vals r) ≡ vstruct (of_list (gathered_val r.map 0 1 2 ∷ only (answer_vals r.answer) ∷ []))
+unfolding column_val
+result_apart r = refl
 
-module _ {M : Type 1} {𝓤 : Ura M} (𝓛 : Logic 𝓤) (z : MemoryMap) (is : Is Map.the_row z (map-vals z)) where
-  pub column_fits : (k : ℕ) → T (has_ty (ty_array (ty_int w64) 512) (column-val z k)) × WT (column-val z k)
-  unfolding column-val
-  column_fits zero = (((Map'.the_laws).0.lawful 𝓛).typed (map (λ (n : ℕ). n) z.starts) _ (LL.owed Map.the_type Map'.the_laws z (map-vals z) is).0).0
-  column_fits (suc zero) = (((Map'.the_laws).0.lawful 𝓛).typed (map (λ (n : ℕ). n) z.ends) _ (LL.owed Map.the_type Map'.the_laws z (map-vals z) is).1.0).0
-  column_fits (suc (suc k)) = (((Map'.the_laws).0.lawful 𝓛).typed (map (λ (n : ℕ). n) z.kinds) _ (LL.owed Map.the_type Map'.the_laws z (map-vals z) is).1.1.0).0
+module _ {M : Type 1} {𝓤 : Ura M} (𝓛 : Logic 𝓤) (z : MemoryMap) (is : Is Map.the_row z (map_vals z)) where
+  pub column_fits : (k : ℕ) → T (has_ty (ty_array (ty_int w64) 512) (column_val z k)) × WT (column_val z k)
+  unfolding column_val
+  column_fits zero = (((Map'.the_laws).0.lawful 𝓛).typed (map (λ (n : ℕ). n) z.starts) _ (LL.owed Map.the_type Map'.the_laws z (map_vals z) is).0).0
+  column_fits (suc zero) = (((Map'.the_laws).0.lawful 𝓛).typed (map (λ (n : ℕ). n) z.ends) _ (LL.owed Map.the_type Map'.the_laws z (map_vals z) is).1.0).0
+  column_fits (suc (suc k)) = (((Map'.the_laws).0.lawful 𝓛).typed (map (λ (n : ℕ). n) z.kinds) _ (LL.owed Map.the_type Map'.the_laws z (map_vals z) is).1.1.0).0
 
-pub size_fits : (z : MemoryMap) → Is Map.the_row z (map-vals z) → z.size < 2 ^ 64
-size_fits z is = (LL.owed Map.the_type Map'.the_laws z (map-vals z) is).1.1.1.0.1
+pub size_fits : (z : MemoryMap) → Is Map.the_row z (map_vals z) → z.size < 2 ^ 64
+size_fits z is = (LL.owed Map.the_type Map'.the_laws z (map_vals z) is).1.1.1.0.1
 
 -- an entry that is a cell
 cell : {M : Type 1} {𝓤 : Ura M} {𝓛 : Logic 𝓤} {K : Type 0} → K → {j : Item 𝓤} {q : Share} {τ : Ty} {b o : ℕ} {v : Val} → j ≡ ‵ (fat q τ b o v) → Part K 𝓛 j q τ b o v (λ u. ‵ (fat q τ b o u))
@@ -84,7 +84,7 @@ module _ {M : Type 1} {𝓤 : Ura M} {𝓛 : Logic 𝓤} {K : Type 0} {Γ : List
       → Part K 𝓛 (nth 𝓛 n Γ) q (ty_struct ν τs) (spot_of 𝓤 H E i).1 (0 + c) (vstruct vs) back → field_at zero τs k ≡ some (τ, d) → Opd K 𝓛 Γ E (copy (place i (field a ∷ field k ∷ []))) (get_v vs k)
   within t n {k = k} e p f = load t (from t (fld t e (fld t f (stop t)))) (look_in t n (sub t k f p))
 
-  pub gathers : K → (z : MemoryMap) (i j l : ℕ) {xs : List Operand} → Opds K 𝓛 Γ E xs (column-val z i ∷ column-val z j ∷ column-val z l ∷ vint w64 z.size ∷ []) → gathered z i j l ≡ z → Rv K 𝓛 Γ E (aggregate xs) (only (map-vals z))
+  pub gathers : K → (z : MemoryMap) (i j l : ℕ) {xs : List Operand} → Opds K 𝓛 Γ E xs (column_val z i ∷ column_val z j ∷ column_val z l ∷ vint w64 z.size ∷ []) → gathered z i j l ≡ z → Rv K 𝓛 Γ E (aggregate xs) (only (map_vals z))
   gathers t z i j l {xs} os e = subst (Rv K 𝓛 Γ E (aggregate xs)) (together z i j l e) (agg t os)
 
   module _ {C : Calls 𝓤 H} {Λ : Loops 𝓤 H} {g : Post 𝓤 H} where

@@ -7,7 +7,7 @@ use native.Mathlib.Omega.{arith}
 use lib.ListN.{length, get_or, set, replicate, length-set, length-append, length-replicate}
 use lib.Seq.{set_at, get_or_at}
 use Rattle.lent_table.specs.Steps.{Inserted, Cleared, Slid}
-use Rattle.lent_table.proofs.SlotLaws.{get-base, get-size, set-slot}
+use Rattle.lent_table.proofs.SlotLaws.{get_base, get_size, set_slot}
 
 -- the numbers so far have their length, and whatever answers from them answers from those at the start
 pub record Going (l₀ l : List ℕ) (First Next : List ℕ → Type 0) : Type 0 where
@@ -25,38 +25,38 @@ longer : (a : List ℕ) (v k : ℕ) → length a ≡ k → length (a ++ (v ∷ [
 longer a v k e = omega (arith, length-append a (v ∷ []))
 
 -- ── clear ──
-cleared-on : (l : List ℕ) (k to : ℕ) → k < to → (l' : List ℕ) → Cleared (set l k 0) (k + 1) to l' → Cleared l k to l'
+cleared_on : (l : List ℕ) (k to : ℕ) → k < to → (l' : List ℕ) → Cleared (set l k 0) (k + 1) to l' → Cleared l k to l'
 unfolding Cleared
-cleared-on l k to h l' go a [] c la lb e = absurd (omega arith)
-cleared-on l k to h l' go a (x ∷ b) c la lb e =
+cleared_on l k to h l' go a [] c la lb e = absurd (omega arith)
+cleared_on l k to h l' go a (x ∷ b) c la lb e =
     go (a ++ (0 ∷ [])) b c (longer a 0 k la) (omega arith)
     (ap (λ (m : List ℕ). set m k 0) e ∙ set_at a x (b ++ c) 0 k la ∙ sym (seam a 0 (b ++ c)))
     ∙ seam a 0 (replicate (length b) 0 ++ c)
 
-cleared-end : (l : List ℕ) (k to : ℕ) → to ≤ k → Cleared l k to l
+cleared_end : (l : List ℕ) (k to : ℕ) → to ≤ k → Cleared l k to l
 unfolding Cleared
-cleared-end l k to h a [] c la lb e = e
-cleared-end l k to h a (x ∷ b) c la lb e = absurd (omega arith)
+cleared_end l k to h a [] c la lb e = e
+cleared_end l k to h a (x ∷ b) c la lb e = absurd (omega arith)
 
 -- ── insert_area ──
 module _ (l : List ℕ) (k n base size : ℕ) where
-  inserted-on : k < n → (l' : List ℕ)
+  inserted_on : k < n → (l' : List ℕ)
       → Inserted (set (set l (k + k) base) (k + k + 1) size) (k + 1) n (get_or l (k + k) 0) (get_or l (k + k + 1) 0) l' → Inserted l k n base size l'
   unfolding Inserted
-  inserted-on h l' go a [] d y z la lc e = absurd (omega arith)
-  inserted-on h l' go a (u ∷ []) d y z la lc e = absurd (omega arith)
-  inserted-on h l' go a (u ∷ v ∷ c) d y z la lc e =
+  inserted_on h l' go a [] d y z la lc e = absurd (omega arith)
+  inserted_on h l' go a (u ∷ []) d y z la lc e = absurd (omega arith)
+  inserted_on h l' go a (u ∷ v ∷ c) d y z la lc e =
       let rest : List ℕ = c ++ (y ∷ z ∷ d) in
       let two : List ℕ = base ∷ size ∷ [] in
       go (a ++ two) c d y z (omega (arith, length-append a two)) (omega arith)
-      (set-slot l k a u v rest la e base size ∙ sym (append_assoc a two rest))
+      (set_slot l k a u v rest la e base size ∙ sym (append_assoc a two rest))
       ∙ append_assoc a two (get_or l (k + k) 0 ∷ get_or l (k + k + 1) 0 ∷ (c ++ d))
-      ∙ ap₂ (λ (s t : ℕ). a ++ (base ∷ size ∷ s ∷ t ∷ (c ++ d))) (get-base l k a u v rest la e) (get-size l k a u v rest la e)
+      ∙ ap₂ (λ (s t : ℕ). a ++ (base ∷ size ∷ s ∷ t ∷ (c ++ d))) (get_base l k a u v rest la e) (get_size l k a u v rest la e)
 
-  inserted-end : n ≤ k → Inserted l k n base size (set (set l (k + k) base) (k + k + 1) size)
+  inserted_end : n ≤ k → Inserted l k n base size (set (set l (k + k) base) (k + k + 1) size)
   unfolding Inserted
-  inserted-end h a [] d y z la lc e = set-slot l k a y z d la e base size
-  inserted-end h a (u ∷ c) d y z la lc e = absurd (omega arith)
+  inserted_end h a [] d y z la lc e = set_slot l k a y z d la e base size
+  inserted_end h a (u ∷ c) d y z la lc e = absurd (omega arith)
 
 -- ── slide ──
 -- a zero behind zeros stands before them
@@ -65,10 +65,10 @@ zeros zero b = refl
 zeros (suc g) b = ap (λ (m : List ℕ). 0 ∷ m) (zeros g b)
 
 module _ (l : List ℕ) (t f end : ℕ) where
-  slid-on : f < end → (l' : List ℕ) → Slid (set (set l f 0) t (get_or l f 0)) (t + 1) (f + 1) end l' → Slid l t f end l'
+  slid_on : f < end → (l' : List ℕ) → Slid (set (set l f 0) t (get_or l f 0)) (t + 1) (f + 1) end l' → Slid l t f end l'
   unfolding Slid
-  slid-on h l' go a [] d g la lg lc e = absurd (omega arith)
-  slid-on h l' go a (z ∷ c) d g la lg lc e =
+  slid_on h l' go a [] d g la lg lc e = absurd (omega arith)
+  slid_on h l' go a (z ∷ c) d g la lg lc e =
       let at : length (a ++ replicate g 0) ≡ f = omega (arith, length-append a (replicate g 0), length-replicate {A = ℕ} g 0) in
       let whole : l ≡ (a ++ replicate g 0) ++ (z ∷ (c ++ d)) = e ∙ sym (append_assoc a (replicate g 0) (z ∷ (c ++ d))) in
       let z= : get_or l f 0 ≡ z = ap (λ (m : List ℕ). get_or m f 0) whole ∙ get_or_at (a ++ replicate g 0) z (c ++ d) 0 f at in
@@ -80,33 +80,33 @@ module _ (l : List ℕ) (t f end : ℕ) where
       (ap (λ (m : List ℕ). set m t v) once ∙ set_at a 0 (replicate g 0 ++ (c ++ d)) v t la ∙ sym (seam a v (replicate g 0 ++ (c ++ d))))
       ∙ seam a v (c ++ (replicate g 0 ++ d)) ∙ ap (λ (w : ℕ). a ++ (w ∷ (c ++ (replicate g 0 ++ d)))) z=
 
-  slid-end : end ≤ f → Slid l t f end l
+  slid_end : end ≤ f → Slid l t f end l
   unfolding Slid
-  slid-end h a [] d g la lg lc e = e
-  slid-end h a (z ∷ c) d g la lg lc e = absurd (omega arith)
+  slid_end h a [] d g la lg lc e = e
+  slid_end h a (z ∷ c) d g la lg lc e = absurd (omega arith)
 
 -- ── Their loops ──
 module _ {First : List ℕ → Type 0} {l₀ l : List ℕ} where
-  pub clears-on : {k to : ℕ} → Going l₀ l First (Cleared l k to) → k < to → Going l₀ (set l k 0) First (Cleared (set l k 0) (k + 1) to)
-  clears-on {k} {to} g h = record { size = length-set l k 0 ∙ g.size; back = λ l' i. g.back l' (cleared-on l k to h l' i) }
+  pub clears_on : {k to : ℕ} → Going l₀ l First (Cleared l k to) → k < to → Going l₀ (set l k 0) First (Cleared (set l k 0) (k + 1) to)
+  clears_on {k} {to} g h = record { size = length-set l k 0 ∙ g.size; back = λ l' i. g.back l' (cleared_on l k to h l' i) }
 
-  pub clears-end : {k to : ℕ} → Going l₀ l First (Cleared l k to) → to ≤ k → First l
-  clears-end {k} {to} g h = g.back l (cleared-end l k to h)
+  pub clears_end : {k to : ℕ} → Going l₀ l First (Cleared l k to) → to ≤ k → First l
+  clears_end {k} {to} g h = g.back l (cleared_end l k to h)
 
-  pub inserts-on : {k n : ℕ} (base size : ℕ) → Going l₀ l First (Inserted l k n base size) → k < n → Going l₀ (set (set l (k + k) base) (k + k + 1) size) First
+  pub inserts_on : {k n : ℕ} (base size : ℕ) → Going l₀ l First (Inserted l k n base size) → k < n → Going l₀ (set (set l (k + k) base) (k + k + 1) size) First
       (Inserted (set (set l (k + k) base) (k + k + 1) size) (k + 1) n (get_or l (k + k) 0) (get_or l (k + k + 1) 0))
-  inserts-on {k} {n} base size g h = record {
+  inserts_on {k} {n} base size g h = record {
     size = length-set (set l (k + k) base) (k + k + 1) size ∙ length-set l (k + k) base ∙ g.size;
-    back = λ l' i. g.back l' (inserted-on l k n base size h l' i);
+    back = λ l' i. g.back l' (inserted_on l k n base size h l' i);
   }
 
-  pub inserts-end : {k n : ℕ} (base size : ℕ) → Going l₀ l First (Inserted l k n base size) → n ≤ k → First (set (set l (k + k) base) (k + k + 1) size)
-  inserts-end {k} {n} base size g h = g.back (set (set l (k + k) base) (k + k + 1) size) (inserted-end l k n base size h)
+  pub inserts_end : {k n : ℕ} (base size : ℕ) → Going l₀ l First (Inserted l k n base size) → n ≤ k → First (set (set l (k + k) base) (k + k + 1) size)
+  inserts_end {k} {n} base size g h = g.back (set (set l (k + k) base) (k + k + 1) size) (inserted_end l k n base size h)
 
-  pub slides-on : {f end : ℕ} (t : ℕ) → Going l₀ l First (Slid l t f end) → f < end
+  pub slides_on : {f end : ℕ} (t : ℕ) → Going l₀ l First (Slid l t f end) → f < end
       → Going l₀ (set (set l f 0) t (get_or l f 0)) First (Slid (set (set l f 0) t (get_or l f 0)) (t + 1) (f + 1) end)
-  slides-on {f} {end} t g h =
-      record { size = length-set (set l f 0) t (get_or l f 0) ∙ length-set l f 0 ∙ g.size; back = λ l' i. g.back l' (slid-on l t f end h l' i) }
+  slides_on {f} {end} t g h =
+      record { size = length-set (set l f 0) t (get_or l f 0) ∙ length-set l f 0 ∙ g.size; back = λ l' i. g.back l' (slid_on l t f end h l' i) }
 
-  pub slides-end : {f end : ℕ} (t : ℕ) → Going l₀ l First (Slid l t f end) → end ≤ f → First l
-  slides-end {f} {end} t g h = g.back l (slid-end l t f end h)
+  pub slides_end : {f end : ℕ} (t : ℕ) → Going l₀ l First (Slid l t f end) → end ≤ f → First l
+  slides_end {f} {end} t g h = g.back l (slid_end l t f end h)

@@ -11,30 +11,30 @@ use lib.Seq.{length-take-le}
 use borrow.Author.Tests.{le-leb, lt-leb}
 use Rattle.areas.specs.Interval.{Interval, interval}
 use Rattle.areas.specs.Table.{flat}
-use Rattle.areas.proofs.Writing.{flat-length}
+use Rattle.areas.proofs.Writing.{flat_length}
 use Rattle.lent_table.specs.Edit.{lead, front, above}
 use Rattle.lent_table.specs.Steps.{Past, Cleared, Slid, Trimmed, Rested}
 use Rattle.lent_table.proofs.TableLaws.{flat_append}
-use Rattle.lent_table.proofs.SlotLaws.{double, here, base-is, size_is, set_both}
+use Rattle.lent_table.proofs.SlotLaws.{double, here, base_is, size_is, set_both}
 
 -- ── trim_front ──
 module _ (l : List ℕ) (j n hi : ℕ) where
-  pub trimmed-end : n ≤ j → Trimmed l j n hi l
+  pub trimmed_end : n ≤ j → Trimmed l j n hi l
   unfolding Trimmed front
-  trimmed-end h pre [] post lp ln e = e
-  trimmed-end h pre (r ∷ xs) post lp ln e = absurd (omega arith)
+  trimmed_end h pre [] post lp ln e = e
+  trimmed_end h pre (r ∷ xs) post lp ln e = absurd (omega arith)
 
-  pub trimmed-same : hi ≤ get_or l (j + j) 0 → Trimmed l j n hi l
+  pub trimmed_same : hi ≤ get_or l (j + j) 0 → Trimmed l j n hi l
   unfolding Trimmed front
-  trimmed-same h pre [] post lp ln e = e
-  trimmed-same h pre (r ∷ xs) post lp ln e = rw (le-leb hi r.lo (omega (arith, base-is l j pre r xs post lp e))) e
+  trimmed_same h pre [] post lp ln e = e
+  trimmed_same h pre (r ∷ xs) post lp ln e = rw (le-leb hi r.lo (omega (arith, base_is l j pre r xs post lp e))) e
 
-  pub trimmed-set : j < n → get_or l (j + j) 0 < hi
+  pub trimmed_set : j < n → get_or l (j + j) 0 < hi
       → Trimmed l j n hi (set (set l (j + j) hi) (j + j + 1) (get_or l (j + j + 1) 0 - (hi - get_or l (j + j) 0)))
   unfolding Trimmed front flat
-  trimmed-set lt h pre [] post lp ln e = absurd (omega arith)
-  trimmed-set lt h pre (r ∷ xs) post lp ln e =
-      let b : get_or l (j + j) 0 ≡ r.lo = base-is l j pre r xs post lp e in
+  trimmed_set lt h pre [] post lp ln e = absurd (omega arith)
+  trimmed_set lt h pre (r ∷ xs) post lp ln e =
+      let b : get_or l (j + j) 0 ≡ r.lo = base_is l j pre r xs post lp e in
       let z : get_or l (j + j + 1) 0 ≡ r.hi - r.lo = size_is l j pre r xs post lp e in
       let v : get_or l (j + j + 1) 0 - (hi - get_or l (j + j) 0) ≡ r.hi - hi = omega arith in
       rw (lt-leb hi r.lo (omega arith))
@@ -42,10 +42,10 @@ module _ (l : List ℕ) (j n hi : ℕ) where
       ∙ ap (λ (w : ℕ). flat pre ++ (hi ∷ w ∷ (flat xs ++ post))) v)
 
 -- ── cut_rest ──
-pub lead-le : (x : ℕ) (l : List Interval) → lead x l ≤ length l
+pub lead_le : (x : ℕ) (l : List Interval) → lead x l ≤ length l
 unfolding lead
-lead-le x [] = le_refl 0
-lead-le x (r ∷ l) = go (leb r.hi x) (lead-le x l)
+lead_le x [] = le_refl 0
+lead_le x (r ∷ l) = go (leb r.hi x) (lead_le x l)
   where
     go : (t : Bool) → lead x l ≤ length l → cond t (suc (lead x l)) 0 ≤ suc (length l)
     go true h = omega arith
@@ -60,9 +60,9 @@ front_length hi (r ∷ l) = go (leb hi r.lo)
     go true = refl
     go false = refl
 
-pub above-length : (hi : ℕ) (l : List Interval) → length (above hi l) ≡ length l - lead hi l
+pub above_length : (hi : ℕ) (l : List Interval) → length (above hi l) ≡ length l - lead hi l
 unfolding above
-above-length hi l = front_length hi (drop (lead hi l) l) ∙ length-drop (lead hi l) l
+above_length hi l = front_length hi (drop (lead hi l) l) ∙ length-drop (lead hi l) l
 
 pub rested : {l : List ℕ} (l₁ l₂ l₃ : List ℕ) {i n hi j : ℕ} → Past l i n hi j → Trimmed l j n hi l₁ → Cleared l₁ (i + i) (j + j) l₂ → Slid l₂ (i + i) (j + j) (n + n) l₃
     → Rested l i n hi l₃ (i + (n - j))
@@ -71,7 +71,7 @@ rested {l} l₁ l₂ l₃ {i} {n} {hi} {j} past trimmed cleared slid pre xs post
     let k = lead hi xs in
     let ys = above hi xs in
     let j= : j ≡ i + k = past.count ∙ ap (λ (m : List Interval). i + lead hi m) (here l i n pre xs post lp ln e up) in
-    let k≤ : k ≤ length xs = lead-le hi xs in
+    let k≤ : k ≤ length xs = lead_le hi xs in
     let lt : length (take k xs) ≡ k = length-take-le k xs k≤ in
     let whole : l ≡ flat (pre ++ take k xs) ++ (flat (drop k xs) ++ post) =
     e ∙ ap (λ (m : List ℕ). flat pre ++ m)
@@ -83,9 +83,9 @@ rested {l} l₁ l₂ l₃ {i} {n} {hi} {j} past trimmed cleared slid pre xs post
     let gap : length (flat (take k xs)) ≡ k + k = double (take k xs) k lt in
     let two : l₂ ≡ flat pre ++ (replicate (length (flat (take k xs))) 0 ++ (flat ys ++ post)) =
     cleared (flat pre) (flat (take k xs)) (flat ys ++ post) (double pre i lp) (omega arith) one in
-    let many : length ys ≡ length xs - k = above-length hi xs in
+    let many : length ys ≡ length xs - k = above_length hi xs in
     let three : l₃ ≡ flat pre ++ (flat ys ++ (replicate (length (flat (take k xs))) 0 ++ post)) =
-    slid (flat pre) (flat ys) post (length (flat (take k xs))) (double pre i lp) (omega arith) (omega (arith, flat-length ys)) two in
+    slid (flat pre) (flat ys) post (length (flat (take k xs))) (double pre i lp) (omega arith) (omega (arith, flat_length ys)) two in
     record {
       count = omega arith;
       slots = three ∙ ap (λ (g : ℕ). flat pre ++ (flat ys ++ (replicate g 0 ++ post))) gap;

@@ -3,14 +3,14 @@ use Rattle.std.specs.Prelude.{◌≡◌, List, ◌∷◌, ◌++◌, ℕ, ◌+◌
 use Rattle.areas.specs.Interval.{Interval, interval}
 use Rattle.areas.specs.Steps.{All}
 use Rattle.areas.specs.Table.{flat}
-use Rattle.lent_table.specs.Table.{tableIn}
+use Rattle.lent_table.specs.Table.{table_in}
 use Rattle.lent_table.specs.Edit.{lead, front, above}
 
 -- past: the areas from slot `from` on, up to slot n
 pub record Past (l : List ℕ) (from n x k : ℕ) : Type 0 where
   pub low : from ≤ k
   pub high : k ≤ n
-  pub count : k ≡ from + lead x (tableIn (n - from) (drop (from + from) l))
+  pub count : k ≡ from + lead x (table_in (n - from) (drop (from + from) l))
   pub stop : k < n → x < get_or l (k + k) 0 + get_or l (k + k + 1) 0
 
 -- insert_area: a base and a size go in before the numbers c, which stand one slot on, over y and z

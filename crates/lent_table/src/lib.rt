@@ -5,7 +5,7 @@
 // to hi, and hi is not in it. No base and size are added before it is known that the sum fits.
 ghost use Rattle.std.specs.Prelude.{◌≡◌, ◌+◌, ◌≤◌, ◌<◌, leb, length};
 ghost use Rattle.areas.specs.Interval.{interval};
-ghost use Rattle.lent_table.specs.Table.{goodArea, goodTable};
+ghost use Rattle.lent_table.specs.Table.{good_area, good_table};
 ghost use Rattle.lent_table.specs.Edit.{crowds, lent, edited};
 ghost use Rattle.lent_table.specs.Steps.{Past, Inserted, Cleared, Slid, Trims, Trimmed, Rested, Splits, Parted};
 
@@ -14,7 +14,7 @@ const TOP: u64 = 0xffff_ffff_ffff_f000;
 
 // Whether this is an area of a table, where the areas before it let the next start at `least`: nonempty, of whole pages, and up to T at most.
 fn good_area(least: u64, base: u64, size: u64) -> bool
-    ensures { result ≡ goodArea 4096 least (interval base (base + size)) }
+    ensures { result ≡ good_area 4096 least (interval base (base + size)) }
 {
     if base < least {
         return false;
@@ -37,7 +37,7 @@ fn good_area(least: u64, base: u64, size: u64) -> bool
 // Whether the first n slots can be a finished table: refusal 14 is that they cannot. The count comes first, so that only slots that are
 // there are read. The next area starts past the end of the one before, and not at it: areas that touch would be one area.
 pub fn good_table(slots: &[u64], n: usize) -> bool
-    ensures { result ≡ goodTable 4096 n slots.now }
+    ensures { result ≡ good_table 4096 n slots.now }
 {
     if slots.len() / 2 < n {
         return false;

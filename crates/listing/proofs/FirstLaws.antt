@@ -12,8 +12,8 @@ use Rattle.entry.specs.declared.FoundEntry.{FoundEntry}
 use Rattle.entry.specs.declared.FoundEntry.TheVariants.{Entry, Nothing}
 use Rattle.memory.specs.declared.MemoryMap.{MemoryMap}
 use Rattle.memory.specs.Map.{Slots, slots_of, at}
-use Rattle.memory.proofs.SlotLaws.{at-or-not}
-use Rattle.listing.specs.Listing.{entriesFrom, first, first_of, FirstHeld, NoneHeld}
+use Rattle.memory.proofs.SlotLaws.{at_or_not}
+use Rattle.listing.specs.Listing.{entries_from, first, first_of, FirstHeld, NoneHeld}
 
 module _ (kind : ℕ) (l : Slots) where
   -- what looking at n slots from i on finds: the first of the kind, or that there is none
@@ -24,17 +24,17 @@ module _ (kind : ℕ) (l : Slots) where
   -- one slot that is not of the kind, in front
   later : (n i : ℕ) (r : FoundEntry) → ((at l i).kind ≡ kind → ⊥) → Finds n (i + 1) r → Finds (suc n) i r
   later n i r k (one s a b e f) =
-      one s (omega arith) (omega arith) e (λ j x y. at-or-not i j ((at l j).kind ≡ kind → ⊥) (λ q. rw q k) (λ q. f j (omega arith) y))
+      one s (omega arith) (omega arith) e (λ j x y. at_or_not i j ((at l j).kind ≡ kind → ⊥) (λ q. rw q k) (λ q. f j (omega arith) y))
   later n i r k (none f) =
-      none (λ j x y. at-or-not i j ((at l j).kind ≡ kind → ⊥) (λ q. rw q k) (λ q. f j (omega arith) (omega arith)))
+      none (λ j x y. at_or_not i j ((at l j).kind ≡ kind → ⊥) (λ q. rw q k) (λ q. f j (omega arith) (omega arith)))
 
-  finds : (n i : ℕ) → Finds n i (first (λ e. eqb e.kind kind) (entriesFrom l n i))
-  unfolding first entriesFrom
+  finds : (n i : ℕ) → Finds n i (first (λ e. eqb e.kind kind) (entries_from l n i))
+  unfolding first entries_from
   finds zero i = none (λ j x y. absurd (omega arith))
   finds (suc n) i = go (eqb (at l i).kind kind) refl (finds n (i + 1))
     where
       rest : FoundEntry
-      rest = first (λ e. eqb e.kind kind) (entriesFrom l n (i + 1))
+      rest = first (λ e. eqb e.kind kind) (entries_from l n (i + 1))
 
       go : (b : Bool) → eqb (at l i).kind kind ≡ b → Finds n (i + 1) rest → Finds (suc n) i (cond b (Entry (at l i)) rest)
       go true e f = one i (omega arith) (omega arith) (eqb-true _ _ e) (λ j x y. absurd (omega arith))
@@ -67,8 +67,8 @@ module _ (kind : ℕ) (m : MemoryMap) where
   never x n = n x.slot x.below (ap (λ (e : MemoryEntry). e.kind) x.there ∙ x.is)
 
   -- an entry is found exactly when it is the first held one of the kind
-  pub entry-exactly : (e : MemoryEntry) → (first_of kind m ≡ Entry e) ↔ FirstHeld kind m e
-  entry-exactly e = (λ q. to _ found q, λ x. from _ found x)
+  pub entry_exactly : (e : MemoryEntry) → (first_of kind m ≡ Entry e) ↔ FirstHeld kind m e
+  entry_exactly e = (λ q. to _ found q, λ x. from _ found x)
     where
       to : (r : FoundEntry) → Found r → r ≡ Entry e → FirstHeld kind m e
       to r (some d x) q = let s : d ≡ e = cc in rw (← s) x
@@ -79,8 +79,8 @@ module _ (kind : ℕ) (m : MemoryMap) where
       from r (nothing n) y = absurd (never y n)
 
   -- nothing is found exactly when no held entry is of the kind
-  pub nothing-exactly : (first_of kind m ≡ Nothing) ↔ NoneHeld kind m
-  nothing-exactly = (λ q. to _ found q, λ n. from _ found n)
+  pub nothing_exactly : (first_of kind m ≡ Nothing) ↔ NoneHeld kind m
+  nothing_exactly = (λ q. to _ found q, λ n. from _ found n)
     where
       to : (r : FoundEntry) → Found r → r ≡ Nothing → NoneHeld kind m
       to r (some d x) q = let z : ◌≡◌ {A = ℕ} 0 1 = cc in absurd (omega arith)

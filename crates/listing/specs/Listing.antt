@@ -7,20 +7,20 @@ use Rattle.memory.specs.declared.MemoryMap.{MemoryMap}
 use Rattle.memory.specs.Map.{Slots, slots_of, at, put, blank, refilled}
 
 -- n entries of some slots, from slot i on
-unfoldable pub entriesFrom : Slots → ℕ → ℕ → List MemoryEntry
-entriesFrom l zero i = []
-entriesFrom l (suc n) i = at l i ∷ entriesFrom l n (i + 1)
+unfoldable pub entries_from : Slots → ℕ → ℕ → List MemoryEntry
+entries_from l zero i = []
+entries_from l (suc n) i = at l i ∷ entries_from l n (i + 1)
 
 -- the entries that a map holds, in order
 abbrev pub held : MemoryMap → List MemoryEntry
-held m = entriesFrom (slots_of m) m.size 0
+held m = entries_from (slots_of m) m.size 0
 
 -- whether a kind is the one asked for, or, where that one is not wanted, any other
-abbrev pub wantsKind : ℕ → Bool → ℕ → Bool
-wantsKind kind wanted k = cond wanted (eqb k kind) (not (eqb k kind))
+abbrev pub wants_kind : ℕ → Bool → ℕ → Bool
+wants_kind kind wanted k = cond wanted (eqb k kind) (not (eqb k kind))
 
 abbrev pub wants : ℕ → Bool → MemoryEntry → Bool
-wants kind wanted e = wantsKind kind wanted e.kind
+wants kind wanted e = wants_kind kind wanted e.kind
 
 -- those entries of a list that pass a test
 unfoldable pub those : (MemoryEntry → Bool) → List MemoryEntry → List MemoryEntry

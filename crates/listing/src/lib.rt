@@ -3,14 +3,14 @@
 ghost use Rattle.std.specs.Prelude.{◌≡◌, true, false};
 ghost use Rattle.entry.specs.Kind.{number_of};
 ghost use Rattle.memory.specs.Made.{Made};
-ghost use Rattle.listing.specs.Listing.{wantsKind, picked, first_of};
+ghost use Rattle.listing.specs.Listing.{wants_kind, picked, first_of};
 
 use entry::{BootloaderMemoryKind, FoundEntry, MemoryEntry};
 use memory::MemoryMap;
 
 // Whether an entry's kind is the one asked for, or, where that one is not wanted, any other.
 fn is_wanted(kind: u64, wanted: bool, held: u64) -> bool
-    ensures { result ≡ wantsKind kind wanted held }
+    ensures { result ≡ wants_kind kind wanted held }
 {
     if held == kind {
         return wanted;

@@ -19,8 +19,8 @@ module _ {s : List ℕ} {k : ℕ} {t : List ℕ} {i : ℕ} where
   pub copies : k + 512 ≤ length s → i + 512 ≤ length t → Copying s k t i 0 t
   copies a b = record { from = a; to = b; some = omega arith; numbers = paste-zero t i (drop k s); size = refl }
 
-  pub copies-on : {n : ℕ} {t' : List ℕ} → Copying s k t i n t' → n < 512 → Copying s k t i (n + 1) (set t' (i + n) (get_or s (k + n) 0))
-  copies-on {n} {t'} c h =
+  pub copies_on : {n : ℕ} {t' : List ℕ} → Copying s k t i n t' → n < 512 → Copying s k t i (n + 1) (set t' (i + n) (get_or s (k + n) 0))
+  copies_on {n} {t'} c h =
       let left : n < length (drop k s) = omega (arith, length-drop k s, c.from) in
       record {
         from = c.from;
@@ -34,7 +34,7 @@ module _ {s : List ℕ} {k : ℕ} {t : List ℕ} {i : ℕ} where
         size = length-set t' (i + n) (get_or s (k + n) 0) ∙ c.size;
       }
 
-  pub copies-end : {n : ℕ} {t' : List ℕ} → Copying s k t i n t' → 512 ≤ n → t' ≡ paste t i (drop k s) 512
-  copies-end {n} {t'} c h =
+  pub copies_end : {n : ℕ} {t' : List ℕ} → Copying s k t i n t' → 512 ≤ n → t' ≡ paste t i (drop k s) 512
+  copies_end {n} {t'} c h =
       let e : n ≡ 512 = omega (arith, c.some) in
       c.numbers ∙ ap (λ (m : ℕ). paste t i (drop k s) m) e

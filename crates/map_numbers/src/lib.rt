@@ -2,7 +2,7 @@
 // map in the caller's memory".
 ghost use Rattle.std.specs.Prelude.{◌≡◌, ◌+◌, ◌≤◌, length, drop};
 ghost use Rattle.std.proofs.Math.Seq.{paste};
-ghost use Rattle.map_numbers.specs.Numbers.{mapIn, numbersOf, Put};
+ghost use Rattle.map_numbers.specs.Numbers.{map_in, numbers_of, Put};
 
 use memory::MemoryMap;
 
@@ -20,7 +20,7 @@ fn copy(source: &[u64], from: usize, target: &mut [u64], at: usize)
 
 // The map in the lent numbers, whatever they are.
 pub fn load(memory: &[u64; 1537]) -> MemoryMap
-    ensures { result ≡ mapIn memory.now }
+    ensures { result ≡ map_in memory.now }
 {
     let mut starts = [0u64; 512];
     let mut ends = [0u64; 512];
@@ -47,7 +47,7 @@ fn put(memory: &mut [u64; 1537], at: usize, numbers: &[u64; 512])
 
 // Leaves a map in the lent numbers, all of them.
 pub fn store(memory: &mut [u64; 1537], map: MemoryMap)
-    ensures { memory.new ≡ numbersOf map }
+    ensures { memory.new ≡ numbers_of map }
 {
     let starts = map.starts;
     let ends = map.ends;

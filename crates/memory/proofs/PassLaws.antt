@@ -41,25 +41,25 @@ abbrev pub passing : ℕ → Pass → Pass
 passing k s = step k s Nothing
 
 -- a fact of what a look leads to, from the two ways
-pub look-ways : (k : ℕ) (s : Pass) (P : Pass → Type 0)
+pub look_ways : (k : ℕ) (s : Pass) (P : Pass → Type 0)
     → (Absorbs s.new (here s) → P (absorbing k s)) → ((Absorbs s.new (here s) → ⊥) → P (passing k s)) → P (look k s)
 unfolding look
-look-ways k s P f g = go (absorb s.new (here s)) (meeting s.new (here s))
+look_ways k s P f g = go (absorb s.new (here s)) (meeting s.new (here s))
   where
     go : (r : FoundEntry) → Meeting s.new (here s) r → P (step k s r)
     go r (takes a) = f a
     go r (leaves n) = g n
 
 -- what holds of a pass and is kept by each look, holds at its end
-pub pass-keeps : (P : ℕ → Pass → Type 0) → ((k : ℕ) (s : Pass) → P (suc k) s → P k (look k s)) → (k : ℕ) (s : Pass) → P k s → P 0 (pass k s)
+pub pass_keeps : (P : ℕ → Pass → Type 0) → ((k : ℕ) (s : Pass) → P (suc k) s → P k (look k s)) → (k : ℕ) (s : Pass) → P k s → P 0 (pass k s)
 unfolding pass
-pass-keeps P f zero s h = h
-pass-keeps P f (suc k) s h = pass-keeps P f k (look k s) (f k s h)
+pass_keeps P f zero s h = h
+pass_keeps P f (suc k) s h = pass_keeps P f k (look k s) (f k s h)
 
 -- ── Counted as the code counts: by the number n of held entries ──
-pub pass-done : (n : ℕ) (s : Pass) → n ≤ s.index → pass (n - s.index) s ≡ s
+pub pass_done : (n : ℕ) (s : Pass) → n ≤ s.index → pass (n - s.index) s ≡ s
 unfolding pass
-pass-done n s h =
+pass_done n s h =
     let e : n - s.index ≡ 0 = omega arith in
     rw e
 
@@ -67,20 +67,20 @@ look_is : (k : ℕ) (s : Pass) (r : FoundEntry) → r ≡ absorb s.new (here s) 
 unfolding look
 look_is k s r e = ap (step k s) (sym e)
 
-pass-suc : (k : ℕ) (s : Pass) → pass (suc k) s ≡ pass k (look k s)
+pass_suc : (k : ℕ) (s : Pass) → pass (suc k) s ≡ pass k (look k s)
 unfolding pass
-pass-suc k s = refl
+pass_suc k s = refl
 
-pub pass-absorbs : (n : ℕ) (s : Pass) (both : MemoryEntry) → s.index < n → Entry both ≡ absorb s.new (here s)
+pub pass_absorbs : (n : ℕ) (s : Pass) (both : MemoryEntry) → s.index < n → Entry both ≡ absorb s.new (here s)
     → pass (n - s.index) s
     ≡ pass (n - 1 - s.index) (record { new = both; slots = put s.slots s.index (at s.slots (n - 1)); index = s.index })
-pass-absorbs n s both h t =
+pass_absorbs n s both h t =
     let e : n - s.index ≡ suc (n - 1 - s.index) = omega arith in
     let f : s.index + (n - 1 - s.index) ≡ n - 1 = omega arith in
-    rw (e, pass-suc, look_is _ s (Entry both) t, f)
+    rw (e, pass_suc, look_is _ s (Entry both) t, f)
 
-pub pass-passes : (n : ℕ) (s : Pass) → s.index < n → Nothing ≡ absorb s.new (here s)
+pub pass_passes : (n : ℕ) (s : Pass) → s.index < n → Nothing ≡ absorb s.new (here s)
     → pass (n - s.index) s ≡ pass (n - (s.index + 1)) (record { new = s.new; slots = s.slots; index = s.index + 1 })
-pass-passes n s h t =
+pass_passes n s h t =
     let e : n - s.index ≡ suc (n - (s.index + 1)) = omega arith in
-    rw (e, pass-suc, look_is _ s Nothing t)
+    rw (e, pass_suc, look_is _ s Nothing t)

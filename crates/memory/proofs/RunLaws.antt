@@ -9,28 +9,28 @@ use Rattle.memory.specs.declared.MemoryMap.{MemoryMap}
 use Rattle.memory.specs.declared.Registered.{Registered}
 use Rattle.memory.specs.Map.{answered, registered}
 use Rattle.memory.specs.Made.{Made}
-use Rattle.memory.specs.Run.{isDone, registeredAll, settled}
+use Rattle.memory.specs.Run.{is_done, registered_all, settled}
 use Rattle.memory.proofs.MapLaws.{registered_made}
 
-pub settled-done : (m : MemoryMap) (r : Registered) → isDone r.answer ≡ true → settled m r ≡ r
+pub settled_done : (m : MemoryMap) (r : Registered) → is_done r.answer ≡ true → settled m r ≡ r
 unfolding settled
-settled-done m r e = rw e
+settled_done m r e = rw e
 
-pub settled-refused : (m : MemoryMap) (r : Registered) → isDone r.answer ≡ false → settled m r ≡ answered m r.answer
+pub settled_refused : (m : MemoryMap) (r : Registered) → is_done r.answer ≡ false → settled m r ≡ answered m r.answer
 unfolding settled
-settled-refused m r e = rw e
+settled_refused m r e = rw e
 
 -- every source makes a map again
-pub cond-made : (p : ℕ) (t : Bool) (a b : Registered) → Made p a.map → Made p b.map → Made p (cond t a b).map
-cond-made p true a b x y = x
-cond-made p false a b x y = y
+pub cond_made : (p : ℕ) (t : Bool) (a b : Registered) → Made p a.map → Made p b.map → Made p (cond t a b).map
+cond_made p true a b x y = x
+cond_made p false a b x y = y
 
-pub all_made : (p : ℕ) (m : MemoryMap) (cs : List Claim) → Page p → Made p m → Made p (registeredAll p m cs).map
-unfolding registeredAll
+pub all_made : (p : ℕ) (m : MemoryMap) (cs : List Claim) → Page p → Made p m → Made p (registered_all p m cs).map
+unfolding registered_all
 all_made p m [] g h = h
 all_made p m (c ∷ cs) g h =
-    cond-made p (isDone (registered p m c).answer) _ _ (all_made p _ cs g (registered_made p m c g h)) (registered_made p m c g h)
+    cond_made p (is_done (registered p m c).answer) _ _ (all_made p _ cs g (registered_made p m c g h)) (registered_made p m c g h)
 
-pub settled-made : (p : ℕ) (m : MemoryMap) (r : Registered) → Made p m → Made p r.map → Made p (settled m r).map
+pub settled_made : (p : ℕ) (m : MemoryMap) (r : Registered) → Made p m → Made p r.map → Made p (settled m r).map
 unfolding settled
-settled-made p m r g h = cond-made p (isDone r.answer) _ _ h g
+settled_made p m r g h = cond_made p (is_done r.answer) _ _ h g

@@ -15,41 +15,41 @@ use Rattle.memory.specs.Made.{Full}
 unfoldable pub from : ℕ → ℕ → ℕ → ℕ
 from i last j = cond (eqb j i) last j
 
-pub from-same : (i last : ℕ) → from i last i ≡ last
+pub from_same : (i last : ℕ) → from i last i ≡ last
 unfolding from
-from-same i last = rw (eq-eqb i i refl)
+from_same i last = rw (eq-eqb i i refl)
 
-pub from-other : (i last j : ℕ) → (j ≡ i → ⊥) → from i last j ≡ j
+pub from_other : (i last j : ℕ) → (j ≡ i → ⊥) → from i last j ≡ j
 unfolding from
-from-other i last j n = rw (ne_eqb j i n)
+from_other i last j n = rw (ne_eqb j i n)
 
 -- by cases: j is i, or not
-pub at-or-not : (i j : ℕ) (P : Type 0) → (j ≡ i → P) → ((j ≡ i → ⊥) → P) → P
-at-or-not i j P f g = go (eqb j i) refl
+pub at_or_not : (i j : ℕ) (P : Type 0) → (j ≡ i → P) → ((j ≡ i → ⊥) → P) → P
+at_or_not i j P f g = go (eqb j i) refl
   where
     go : (t : Bool) → eqb j i ≡ t → P
     go true e = f (eqb-true j i e)
     go false e = g (eqb-false j i e)
 
-pub from-below : (i last j : ℕ) → j < last → from i last j < suc last
-from-below i last j h =
-    at-or-not i j (from i last j < suc last)
-    (λ e. rw e (rw from-same (omega arith)))
-    (λ n. rw (from-other i last j n) (omega arith))
+pub from_below : (i last j : ℕ) → j < last → from i last j < suc last
+from_below i last j h =
+    at_or_not i j (from i last j < suc last)
+    (λ e. rw e (rw from_same (omega arith)))
+    (λ n. rw (from_other i last j n) (omega arith))
 
-pub from-misses : (i last j : ℕ) → j < last → from i last j ≡ i → ⊥
-from-misses i last j h e =
-    at-or-not i j ⊥
-    (λ q. omega (arith, from-same i last, ap (from i last) q))
-    (λ n. omega (arith, n, from-other i last j n))
+pub from_misses : (i last j : ℕ) → j < last → from i last j ≡ i → ⊥
+from_misses i last j h e =
+    at_or_not i j ⊥
+    (λ q. omega (arith, from_same i last, ap (from i last) q))
+    (λ n. omega (arith, n, from_other i last j n))
 
-pub from-apart : (i last a b : ℕ) → a < last → b < last → (a ≡ b → ⊥) → from i last a ≡ from i last b → ⊥
-from-apart i last a b ha hb n e =
-    at-or-not i a ⊥
-    (λ q. at-or-not i b ⊥ (λ r. omega arith) (λ r. omega (arith, from-same i last, ap (from i last) q, from-other i last b r)))
-    (λ q. at-or-not i b ⊥
-    (λ r. omega (arith, from-same i last, ap (from i last) r, from-other i last a q))
-    (λ r. omega (arith, from-other i last b r, from-other i last a q)))
+pub from_apart : (i last a b : ℕ) → a < last → b < last → (a ≡ b → ⊥) → from i last a ≡ from i last b → ⊥
+from_apart i last a b ha hb n e =
+    at_or_not i a ⊥
+    (λ q. at_or_not i b ⊥ (λ r. omega arith) (λ r. omega (arith, from_same i last, ap (from i last) q, from_other i last b r)))
+    (λ q. at_or_not i b ⊥
+    (λ r. omega (arith, from_same i last, ap (from i last) r, from_other i last a q))
+    (λ r. omega (arith, from_other i last b r, from_other i last a q)))
 
 -- every slot but i is where something came from
 pub record Came (i last m : ℕ) : Type 0 where
@@ -57,29 +57,29 @@ pub record Came (i last m : ℕ) : Type 0 where
   pub below : slot < last
   pub there : from i last slot ≡ m
 
-pub from-onto : (i last m : ℕ) → i ≤ last → m < suc last → (m ≡ i → ⊥) → Came i last m
-from-onto i last m hi hm n =
-    at-or-not last m (Came i last m)
-    (λ e. record { slot = i; below = omega arith; there = from-same i last ∙ sym e })
-    (λ k. record { slot = m; below = omega arith; there = from-other i last m n })
+pub from_onto : (i last m : ℕ) → i ≤ last → m < suc last → (m ≡ i → ⊥) → Came i last m
+from_onto i last m hi hm n =
+    at_or_not last m (Came i last m)
+    (λ e. record { slot = i; below = omega arith; there = from_same i last ∙ sym e })
+    (λ k. record { slot = m; below = omega arith; there = from_other i last m n })
 
 pub full_put : (l : Slots) (i : ℕ) (e : MemoryEntry) → Full l → Full (put l i e)
 unfolding put
 full_put l i e f =
     record { starts = simp length-set f.starts; ends = simp length-set f.ends; kinds = simp length-set f.kinds }
 
-pub at-put-same : (l : Slots) (i : ℕ) (e : MemoryEntry) → Full l → i < 512 → at (put l i e) i ≡ e
+pub at_put_same : (l : Slots) (i : ℕ) (e : MemoryEntry) → Full l → i < 512 → at (put l i e) i ≡ e
 unfolding at put
-at-put-same l i e f h =
+at_put_same l i e f h =
     rw (
       get_or-set_same l.starts i e.start 0 (omega (arith, f.starts)),
       get_or-set_same l.ends i e.end 0 (omega (arith, f.ends)),
       get_or-set_same l.kinds i e.kind 0 (omega (arith, f.kinds)),
     )
 
-pub at-put-other : (l : Slots) (i j : ℕ) (e : MemoryEntry) → (j ≡ i → ⊥) → at (put l i e) j ≡ at l j
+pub at_put_other : (l : Slots) (i j : ℕ) (e : MemoryEntry) → (j ≡ i → ⊥) → at (put l i e) j ≡ at l j
 unfolding at put
-at-put-other l i j e n =
+at_put_other l i j e n =
     rw (
       get_or-set_other l.starts i j e.start 0 n,
       get_or-set_other l.ends i j e.end 0 n,
@@ -88,6 +88,6 @@ at-put-other l i j e n =
 
 pub at_moved : (l : Slots) (i last j : ℕ) → Full l → i < 512 → at (put l i (at l last)) j ≡ at l (from i last j)
 at_moved l i last j f h =
-    at-or-not i j (at (put l i (at l last)) j ≡ at l (from i last j))
-    (λ e. rw (e, from-same, at-put-same l i _ f h))
-    (λ n. rw (from-other i last j n, at-put-other l i j _ n))
+    at_or_not i j (at (put l i (at l last)) j ≡ at l (from i last j))
+    (λ e. rw (e, from_same, at_put_same l i _ f h))
+    (λ n. rw (from_other i last j n, at_put_other l i j _ n))

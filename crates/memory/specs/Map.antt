@@ -16,10 +16,10 @@ use Rattle.memory.specs.declared.Registered.{Registered}
 use Rattle.memory.specs.declared.Admitted.{Admitted}
 
 -- "Numbers a caller gets back"
-abbrev pub answerNumber : Answer → ℕ
-answerNumber Done = 0
-answerNumber UnknownKind = 1
-answerNumber MapFull = 2
+abbrev pub answer_number : Answer → ℕ
+answer_number Done = 0
+answer_number UnknownKind = 1
+answer_number MapFull = 2
 
 -- the slots of a map: the entry in slot j has its start, its end and its kind at place j of three lists
 pub record Slots : Type 0 where
@@ -33,14 +33,14 @@ at l j = entry (get_or l.starts j 0) (get_or l.ends j 0) (get_or l.kinds j 0)
 unfoldable pub put : Slots → ℕ → MemoryEntry → Slots
 put l j e = record { starts = set l.starts j e.start; ends = set l.ends j e.end; kinds = set l.kinds j e.kind }
 
-abbrev pub slotsAs : List ℕ → List ℕ → List ℕ → Slots
-slotsAs s e k = record { starts = s; ends = e; kinds = k }
+abbrev pub slots_as : List ℕ → List ℕ → List ℕ → Slots
+slots_as s e k = record { starts = s; ends = e; kinds = k }
 
 abbrev pub slots_of : MemoryMap → Slots
-slots_of m = slotsAs m.starts m.ends m.kinds
+slots_of m = slots_as m.starts m.ends m.kinds
 
-abbrev pub mapOf : List ℕ → List ℕ → List ℕ → ℕ → MemoryMap
-mapOf s e k n = record { starts = s; ends = e; kinds = k; size = n }
+abbrev pub map_of : List ℕ → List ℕ → List ℕ → ℕ → MemoryMap
+map_of s e k n = record { starts = s; ends = e; kinds = k; size = n }
 
 -- the map with other slots and another count, and all else as it was
 abbrev pub refilled : MemoryMap → Slots → ℕ → MemoryMap
@@ -48,14 +48,14 @@ refilled m l n = record { starts = l.starts; ends = l.ends; kinds = l.kinds; siz
 
 -- "The map has 512 entries. It starts empty"
 unfoldable pub blank : MemoryMap
-blank = mapOf (replicate 512 0) (replicate 512 0) (replicate 512 0) 0
+blank = map_of (replicate 512 0) (replicate 512 0) (replicate 512 0) 0
 
 abbrev pub answered : MemoryMap → Answer → Registered
 answered m a = record { map = m; answer = a }
 
 -- what a registration in place leaves, as one value
 abbrev pub left : Admitted → List ℕ → List ℕ → List ℕ → Registered
-left r s e k = answered (mapOf s e k r.size) r.answer
+left r s e k = answered (map_of s e k r.size) r.answer
 
 -- "each held entry of its kind that overlaps or touches it"
 pub record Absorbs (new held : MemoryEntry) : Type 0 where

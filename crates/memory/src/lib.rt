@@ -2,7 +2,7 @@
 ghost use Rattle.std.specs.Prelude.{◌≡◌, ◌≤◌};
 ghost use Rattle.entry.specs.Kind.{number_of};
 ghost use Rattle.entry.specs.Claim.{claim};
-ghost use Rattle.memory.specs.Map.{mapOf, blank, answerNumber, absorb, inserted, registered, left};
+ghost use Rattle.memory.specs.Map.{map_of, blank, answer_number, absorb, inserted, registered, left};
 ghost use Rattle.memory.specs.Made.{Made};
 
 use entry::{BootloaderMemoryKind, FoundEntry, KindRead, MemoryEntry};
@@ -26,7 +26,7 @@ pub enum Answer {
 
 impl Answer {
     pub fn number(self) -> u8
-        ensures { result ≡ answerNumber self }
+        ensures { result ≡ answer_number self }
     {
         match self {
             Answer::Done => 0,
@@ -69,7 +69,7 @@ fn insert_in(
     entry: MemoryEntry,
 ) -> Admitted
     requires { size ≤ 512 }
-    ensures { left result starts.new ends.new kinds.new ≡ inserted (mapOf starts.old ends.old kinds.old size) entry }
+    ensures { left result starts.new ends.new kinds.new ≡ inserted (map_of starts.old ends.old kinds.old size) entry }
 {
     let mut new = entry;
     let mut n = size;
@@ -119,8 +119,8 @@ pub fn register_in(
     len: u64,
     kind: u64,
 ) -> Admitted
-    requires { Made 4096 (mapOf starts.old ends.old kinds.old size) }
-    ensures { left result starts.new ends.new kinds.new ≡ registered 4096 (mapOf starts.old ends.old kinds.old size) (claim base len kind) }
+    requires { Made 4096 (map_of starts.old ends.old kinds.old size) }
+    ensures { left result starts.new ends.new kinds.new ≡ registered 4096 (map_of starts.old ends.old kinds.old size) (claim base len kind) }
 {
     let KindRead::Known(_) = entry::kind_of(kind) else {
         return Admitted {

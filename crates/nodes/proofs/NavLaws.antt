@@ -8,19 +8,19 @@ use mathlib.Core.List.{List, [], ◌∷◌}
 use mathlib.Core.Bool.{Bool, true, false, cond}
 use lib.ListN.{length}
 use Rattle.words.specs.Bytes.{bytes, part_of}
-use Rattle.words.proofs.BytesLaws.{bytes-length}
+use Rattle.words.proofs.BytesLaws.{bytes_length}
 use Rattle.fdt.specs.declared.Token.{Token}
 use Rattle.fdt.specs.declared.Token.TheVariants.{Bad, Nop, Begin, EndNode, Prop, Fin}
-use Rattle.fdt.specs.Token.{tokAt}
-use Rattle.fdt.specs.Tree.{Tok, begin, ended, prop, fin, bad, taken, lexAt}
+use Rattle.fdt.specs.Token.{tok_at}
+use Rattle.fdt.specs.Tree.{Tok, begin, ended, prop, fin, bad, taken, lex_at}
 use Rattle.fdt.proofs.TokLaws.{Reach}
 use Rattle.nodes.specs.declared.Found.{Found}
 use Rattle.nodes.specs.declared.Found.TheVariants.{At, Nothing}
 use Rattle.nodes.specs.declared.Value.TheVariants.{Here, Missing}
 use Rattle.nodes.specs.declared.Kid.{Kid}
 use Rattle.nodes.specs.declared.Kid.TheVariants.{Node, End, Stuck}
-use Rattle.nodes.specs.Nav.{sameBytes, firstKid, dropP, skipT, lookup, KidIs, SkipsTo}
-use Rattle.nodes.proofs.SameLaws.{part-upto}
+use Rattle.nodes.specs.Nav.{same_bytes, first_kid, drop_p, skip_t, lookup, KidIs, SkipsTo}
+use Rattle.nodes.proofs.SameLaws.{part_upto}
 use Rattle.nodes.proofs.TokenLaws.{read, reach}
 
 -- ── Past the properties ──
@@ -28,7 +28,7 @@ use Rattle.nodes.proofs.TokenLaws.{read, reach}
 -- the place at is not before p, and past the properties the same tokens follow from both
 pub record Drops (b n : List ℕ) (p at : ℕ) : Type 0 where
   pub from : p ≤ at
-  pub same : dropP (lexAt b n p) ≡ dropP (lexAt b n at)
+  pub same : drop_p (lex_at b n p) ≡ drop_p (lex_at b n at)
 
 -- what is to show of a token at the place at: to go on after it, or to answer
 abbrev pub DropStep : List ℕ → List ℕ → ℕ → ℕ → Token → Type 0
@@ -40,17 +40,17 @@ DropStep b n p at (Prop l a z q) = Drops b n p q
 DropStep b n p at Fin = KidIs b n p Stuck
 
 module _ (b n : List ℕ) (p at : ℕ) (d : Drops b n p at) where
-  drop_of : (t : Token) → Reach at (length b) (length n) t → lexAt b n at ≡ taken b n at t (lexAt b n) → DropStep b n p at t
-  unfolding dropP
-  drop_of Bad m e = (false, d.same ∙ ap dropP e)
-  drop_of (Nop q) m e = record { from = omega arith; same = d.same ∙ ap dropP e }
-  drop_of (Begin l q) m e = record { is = d.same ∙ ap dropP e; from = d.from; within = m.3; onward = m.1 }
-  drop_of (EndNode q) m e = record { is = d.same ∙ ap dropP e; onward = omega arith }
-  drop_of (Prop l a z q) m e = record { from = omega arith; same = d.same ∙ ap dropP e }
-  drop_of Fin m e = (true, d.same ∙ ap dropP e)
+  drop_of : (t : Token) → Reach at (length b) (length n) t → lex_at b n at ≡ taken b n at t (lex_at b n) → DropStep b n p at t
+  unfolding drop_p
+  drop_of Bad m e = (false, d.same ∙ ap drop_p e)
+  drop_of (Nop q) m e = record { from = omega arith; same = d.same ∙ ap drop_p e }
+  drop_of (Begin l q) m e = record { is = d.same ∙ ap drop_p e; from = d.from; within = m.3; onward = m.1 }
+  drop_of (EndNode q) m e = record { is = d.same ∙ ap drop_p e; onward = omega arith }
+  drop_of (Prop l a z q) m e = record { from = omega arith; same = d.same ∙ ap drop_p e }
+  drop_of Fin m e = (true, d.same ∙ ap drop_p e)
 
-  pub drop-step : {r t : Token} → r ≡ tokAt b n at → r ≡ t → DropStep b n p at t
-  drop-step {r} {t} is e = drop_of t (reach b n at is e) (read b n at is e)
+  pub drop_step : {r t : Token} → r ≡ tok_at b n at → r ≡ t → DropStep b n p at t
+  drop_step {r} {t} is e = drop_of t (reach b n at is e) (read b n at is e)
 
 -- ── Past a node's end ──
 
@@ -59,7 +59,7 @@ module _ (b n : List ℕ) (p at : ℕ) (d : Drops b n p at) where
 pub record Skips (b n : List ℕ) (p at d : ℕ) : Type 0 where
   pub deep : d ≤ at + 1
   pub from : p ≤ at
-  pub same : skipT (lexAt b n p) 1 ≡ skipT (lexAt b n at) d
+  pub same : skip_t (lex_at b n p) 1 ≡ skip_t (lex_at b n at) d
 
 -- what is to show of a token at the place at
 abbrev pub SkipStep : List ℕ → List ℕ → ℕ → ℕ → ℕ → Token → Type 0
@@ -70,48 +70,48 @@ SkipStep b n p at d (EndNode q) = (d ≤ 1 → SkipsTo b n p q) × (1 < d → Sk
 SkipStep b n p at d (Prop l a z q) = Skips b n p q d
 SkipStep b n p at d Fin = SkipsTo b n p at
 
-skip-end : (ts : List Tok) (d : ℕ) → d ≤ 1 → skipT (ended ∷ ts) d ≡ ts
-skip-end ts zero h = refl
-skip-end ts (suc zero) h = refl
-skip-end ts (suc (suc d)) h = let x : ⊥ = omega arith in absurd x
+skip_end : (ts : List Tok) (d : ℕ) → d ≤ 1 → skip_t (ended ∷ ts) d ≡ ts
+skip_end ts zero h = refl
+skip_end ts (suc zero) h = refl
+skip_end ts (suc (suc d)) h = let x : ⊥ = omega arith in absurd x
 
-skip-deep : (ts : List Tok) (d : ℕ) → 1 < d → skipT (ended ∷ ts) d ≡ skipT ts (d - 1)
-skip-deep ts zero h = let x : ⊥ = omega arith in absurd x
-skip-deep ts (suc zero) h = let x : ⊥ = omega arith in absurd x
-skip-deep ts (suc (suc d)) h = let q : suc d ≡ suc (suc d) - 1 = omega arith in ap (skipT ts) q
+skip_deep : (ts : List Tok) (d : ℕ) → 1 < d → skip_t (ended ∷ ts) d ≡ skip_t ts (d - 1)
+skip_deep ts zero h = let x : ⊥ = omega arith in absurd x
+skip_deep ts (suc zero) h = let x : ⊥ = omega arith in absurd x
+skip_deep ts (suc (suc d)) h = let q : suc d ≡ suc (suc d) - 1 = omega arith in ap (skip_t ts) q
 
 module _ (b n : List ℕ) (p at d : ℕ) (s : Skips b n p at d) where
-  skips : {ts : List Tok} → lexAt b n at ≡ ts → skipT (lexAt b n p) 1 ≡ skipT ts d
-  skips e = s.same ∙ ap (λ (x : List Tok). skipT x d) e
+  skips : {ts : List Tok} → lex_at b n at ≡ ts → skip_t (lex_at b n p) 1 ≡ skip_t ts d
+  skips e = s.same ∙ ap (λ (x : List Tok). skip_t x d) e
 
-  skip-of : (t : Token) → Reach at (length b) (length n) t → lexAt b n at ≡ taken b n at t (lexAt b n) → SkipStep b n p at d t
-  skip-of Bad m e = record { is = e ∙ sym (skips e); onward = s.from }
-  skip-of (Nop q) m e = record { deep = omega arith; from = omega arith; same = skips e }
-  skip-of (Begin l q) m e =
-      (omega arith, record { deep = omega arith; from = omega arith; same = skips e ∙ ap (skipT (lexAt b n q)) (sym (add-one d)) })
-  skip-of (EndNode q) m e = (
-    λ h. record { is = sym (skips e ∙ skip-end (lexAt b n q) d h); onward = omega arith },
-    λ h. record { deep = omega arith; from = omega arith; same = skips e ∙ skip-deep (lexAt b n q) d h },
+  skip_of : (t : Token) → Reach at (length b) (length n) t → lex_at b n at ≡ taken b n at t (lex_at b n) → SkipStep b n p at d t
+  skip_of Bad m e = record { is = e ∙ sym (skips e); onward = s.from }
+  skip_of (Nop q) m e = record { deep = omega arith; from = omega arith; same = skips e }
+  skip_of (Begin l q) m e =
+      (omega arith, record { deep = omega arith; from = omega arith; same = skips e ∙ ap (skip_t (lex_at b n q)) (sym (add-one d)) })
+  skip_of (EndNode q) m e = (
+    λ h. record { is = sym (skips e ∙ skip_end (lex_at b n q) d h); onward = omega arith },
+    λ h. record { deep = omega arith; from = omega arith; same = skips e ∙ skip_deep (lex_at b n q) d h },
   )
-  skip-of (Prop l a z q) m e = record { deep = omega arith; from = omega arith; same = skips e }
-  skip-of Fin m e = record { is = e ∙ sym (skips e); onward = s.from }
+  skip_of (Prop l a z q) m e = record { deep = omega arith; from = omega arith; same = skips e }
+  skip_of Fin m e = record { is = e ∙ sym (skips e); onward = s.from }
 
-  pub skip_step : {r t : Token} → r ≡ tokAt b n at → r ≡ t → SkipStep b n p at d t
-  skip_step {r} {t} is e = skip-of t (reach b n at is e) (read b n at is e)
+  pub skip_step : {r t : Token} → r ≡ tok_at b n at → r ≡ t → SkipStep b n p at d t
+  skip_step {r} {t} is e = skip_of t (reach b n at is e) (read b n at is e)
 
 -- ── The first child ──
-first-drop : (ts : List Tok) → firstKid (dropP ts) ≡ firstKid ts
-unfolding dropP
-first-drop [] = refl
-first-drop (begin q nm ∷ ts) = refl
-first-drop (ended ∷ ts) = refl
-first-drop (prop q ∷ ts) = first-drop ts
-first-drop (fin ∷ ts) = refl
-first-drop (bad ∷ ts) = refl
+first_drop : (ts : List Tok) → first_kid (drop_p ts) ≡ first_kid ts
+unfolding drop_p
+first_drop [] = refl
+first_drop (begin q nm ∷ ts) = refl
+first_drop (ended ∷ ts) = refl
+first_drop (prop q ∷ ts) = first_drop ts
+first_drop (fin ∷ ts) = refl
+first_drop (bad ∷ ts) = refl
 
-first-stuck : (e : Bool) → Nothing ≡ firstKid (cond e fin bad ∷ [])
-first-stuck true = refl
-first-stuck false = refl
+first_stuck : (e : Bool) → Nothing ≡ first_kid (cond e fin bad ∷ [])
+first_stuck true = refl
+first_stuck false = refl
 
 -- what stands past the properties, as an answer
 abbrev pub headed : Kid → Found
@@ -119,47 +119,47 @@ headed (Node q l r) = At q
 headed (End r) = Nothing
 headed Stuck = Nothing
 
-pub kid-first : (b n : List ℕ) (p : ℕ) (k : Kid) → KidIs b n p k → headed k ≡ firstKid (lexAt b n p)
-kid-first b n p (Node q l r) i = sym (ap firstKid i.is) ∙ first-drop (lexAt b n p)
-kid-first b n p (End r) i = sym (ap firstKid i.is) ∙ first-drop (lexAt b n p)
-kid-first b n p Stuck i = first-stuck i.0 ∙ sym (ap firstKid i.1) ∙ first-drop (lexAt b n p)
+pub kid_first : (b n : List ℕ) (p : ℕ) (k : Kid) → KidIs b n p k → headed k ≡ first_kid (lex_at b n p)
+kid_first b n p (Node q l r) i = sym (ap first_kid i.is) ∙ first_drop (lex_at b n p)
+kid_first b n p (End r) i = sym (ap first_kid i.is) ∙ first_drop (lex_at b n p)
+kid_first b n p Stuck i = first_stuck i.0 ∙ sym (ap first_kid i.1) ∙ first_drop (lex_at b n p)
 
 -- ── A property by its name ──
 
 -- what is to show of a token at the place at, but for a property's
 abbrev pub LookStep : List ℕ → List ℕ → List ℕ → ℕ → Token → Type 0
-LookStep b n name at Bad = lookup name (lexAt b n at) ≡ Missing
-LookStep b n name at (Nop q) = lookup name (lexAt b n at) ≡ lookup name (lexAt b n q)
-LookStep b n name at (Begin l q) = lookup name (lexAt b n at) ≡ Missing
-LookStep b n name at (EndNode q) = lookup name (lexAt b n at) ≡ Missing
+LookStep b n name at Bad = lookup name (lex_at b n at) ≡ Missing
+LookStep b n name at (Nop q) = lookup name (lex_at b n at) ≡ lookup name (lex_at b n q)
+LookStep b n name at (Begin l q) = lookup name (lex_at b n at) ≡ Missing
+LookStep b n name at (EndNode q) = lookup name (lex_at b n at) ≡ Missing
 LookStep b n name at (Prop l a z q) = Unit {0}
-LookStep b n name at Fin = lookup name (lexAt b n at) ≡ Missing
+LookStep b n name at Fin = lookup name (lex_at b n at) ≡ Missing
 
 module _ (b n name : List ℕ) (at : ℕ) where
-  look-of : (t : Token) → lexAt b n at ≡ taken b n at t (lexAt b n) → LookStep b n name at t
+  look_of : (t : Token) → lex_at b n at ≡ taken b n at t (lex_at b n) → LookStep b n name at t
   unfolding lookup
-  look-of Bad e = ap (lookup name) e
-  look-of (Nop q) e = ap (lookup name) e
-  look-of (Begin l q) e = ap (lookup name) e
-  look-of (EndNode q) e = ap (lookup name) e
-  look-of (Prop l a z q) e = tt
-  look-of Fin e = ap (lookup name) e
+  look_of Bad e = ap (lookup name) e
+  look_of (Nop q) e = ap (lookup name) e
+  look_of (Begin l q) e = ap (lookup name) e
+  look_of (EndNode q) e = ap (lookup name) e
+  look_of (Prop l a z q) e = tt
+  look_of Fin e = ap (lookup name) e
 
-  pub look-step : {r t : Token} → r ≡ tokAt b n at → r ≡ t → LookStep b n name at t
-  look-step {r} {t} is e = look-of t (read b n at is e)
+  pub look_step : {r t : Token} → r ≡ tok_at b n at → r ≡ t → LookStep b n name at t
+  look_step {r} {t} is e = look_of t (read b n at is e)
 
 -- x is the part of the strings block that the property token at p names
-module _ (b n name : List ℕ) (p l a z q : ℕ) (r : Token) (is : r ≡ tokAt b n p) (e : r ≡ Prop l a z q) (x : List ℕ) (ex : x ≡ part_of n a (z - a)) where
+module _ (b n name : List ℕ) (p l a z q : ℕ) (r : Token) (is : r ≡ tok_at b n p) (e : r ≡ Prop l a z q) (x : List ℕ) (ex : x ≡ part_of n a (z - a)) where
   named : x ≡ bytes n a z
-  named = let m = reach b n p is e in part-upto n a z x ex (omega arith) (omega arith)
+  named = let m = reach b n p is e in part_upto n a z x ex (omega arith) (omega arith)
 
-  pub look_hit : sameBytes x name ≡ true → lookup name (lexAt b n p) ≡ Here (p + 12) l
+  pub look_hit : same_bytes x name ≡ true → lookup name (lex_at b n p) ≡ Here (p + 12) l
   unfolding lookup
   look_hit h =
       let m = reach b n p is e in
-      let w : length (bytes b (p + 12) (p + 12 + l)) ≡ l = bytes-length b (p + 12) (p + 12 + l) (omega arith) ∙ omega arith in
+      let w : length (bytes b (p + 12) (p + 12 + l)) ≡ l = bytes_length b (p + 12) (p + 12 + l) (omega arith) ∙ omega arith in
       ap (lookup name) (read b n p is e) ∙ rw (← named, h, w)
 
-  pub look-miss : sameBytes x name ≡ false → lookup name (lexAt b n p) ≡ lookup name (lexAt b n q)
+  pub look_miss : same_bytes x name ≡ false → lookup name (lex_at b n p) ≡ lookup name (lex_at b n q)
   unfolding lookup
-  look-miss h = ap (lookup name) (read b n p is e) ∙ rw (← named, h)
+  look_miss h = ap (lookup name) (read b n p is e) ∙ rw (← named, h)

@@ -7,10 +7,10 @@ use mathlib.Core.List.{List}
 use lib.ListN.{length}
 use Rattle.fdt.specs.declared.Token.{Token}
 use Rattle.fdt.specs.declared.Token.TheVariants.{Bad, Nop, Begin, EndNode, Prop, Fin}
-use Rattle.fdt.specs.Token.{tokAt}
-use Rattle.fdt.specs.Tree.{taken, lexAt}
+use Rattle.fdt.specs.Token.{tok_at}
+use Rattle.fdt.specs.Tree.{taken, lex_at}
 use Rattle.fdt.proofs.TokLaws.{Reach, reach_of, Ahead, ahead_of}
-use Rattle.fdt.proofs.LexLaws.{lex-of}
+use Rattle.fdt.proofs.LexLaws.{lex_of}
 
 -- what P says of the place after a token, where there is one
 abbrev pub After : (ℕ → Type 0) → Token → Type 0
@@ -29,9 +29,9 @@ fall p e (EndNode q) a = omega arith
 fall p e (Prop l x z q) a = omega arith
 fall p e Fin a = tt
 
-module _ (b n : List ℕ) (p : ℕ) {r t : Token} (is : r ≡ tokAt b n p) (e : r ≡ t) where
-  pub read : lexAt b n p ≡ taken b n p t (lexAt b n)
-  read = lex-of b n p t (sym is ∙ e)
+module _ (b n : List ℕ) (p : ℕ) {r t : Token} (is : r ≡ tok_at b n p) (e : r ≡ t) where
+  pub read : lex_at b n p ≡ taken b n p t (lex_at b n)
+  read = lex_of b n p t (sym is ∙ e)
 
   pub reach : Reach p (length b) (length n) t
   reach = reach_of b n p t (sym is ∙ e)

@@ -1,11 +1,11 @@
 -- Finding one's way in a structure block b with names in a strings block n, on the tokens from a place on. specs/OnTree.antt says the
 -- same on the tree, and the crate reading proves that on an accepted tree, at a node's place, the two agree.
 use Rattle.std.specs.Prelude.{◌≡◌, ℕ, zero, suc, ◌+◌, ◌≤◌, ◌<◌, Bool, true, false, cond, ◌||◌, List, [], ◌∷◌, length, eqb}
-use Rattle.words.specs.Bytes.{bytes, firstByte}
+use Rattle.words.specs.Bytes.{bytes, first_byte}
 use Rattle.fdt.specs.declared.Token.{Token}
 use Rattle.fdt.specs.declared.Token.TheVariants.{Bad, Nop, Begin, EndNode, Prop, Fin}
-use Rattle.fdt.specs.Token.{tokAt}
-use Rattle.fdt.specs.Tree.{Tok, begin, ended, prop, fin, bad, lexAt}
+use Rattle.fdt.specs.Token.{tok_at}
+use Rattle.fdt.specs.Tree.{Tok, begin, ended, prop, fin, bad, lex_at}
 use Rattle.nodes.specs.declared.Found.{Found}
 use Rattle.nodes.specs.declared.Found.TheVariants.{At, Nothing}
 use Rattle.nodes.specs.declared.Value.{Value}
@@ -16,43 +16,43 @@ use Rattle.nodes.specs.declared.Child.{Child}
 use Rattle.nodes.specs.declared.Child.TheVariants.{Is, Absent}
 
 -- ── Names ──
-unfoldable pub sameBytes : List ℕ → List ℕ → Bool
-sameBytes [] [] = true
-sameBytes [] (y ∷ ys) = false
-sameBytes (x ∷ xs) [] = false
-sameBytes (x ∷ xs) (y ∷ ys) = cond (eqb x y) (sameBytes xs ys) false
+unfoldable pub same_bytes : List ℕ → List ℕ → Bool
+same_bytes [] [] = true
+same_bytes [] (y ∷ ys) = false
+same_bytes (x ∷ xs) [] = false
+same_bytes (x ∷ xs) (y ∷ ys) = cond (eqb x y) (same_bytes xs ys) false
 
 -- a name's part before `@`: the whole name where it has none
 abbrev pub unitless : List ℕ → List ℕ
-unitless name = bytes name 0 (firstByte 64 name 0)
+unitless name = bytes name 0 (first_byte 64 name 0)
 
 -- "whose whole name, or part before `@`, equals it"
 unfoldable pub matches : List ℕ → List ℕ → Bool
-matches name step = sameBytes name step || sameBytes (unitless name) step
+matches name step = same_bytes name step || same_bytes (unitless name) step
 
 -- ── The token at a place, as a node's ──
-abbrev pub contentOf : Token → Found
-contentOf Bad = Nothing
-contentOf (Nop q) = Nothing
-contentOf (Begin l q) = At q
-contentOf (EndNode q) = Nothing
-contentOf (Prop l a z q) = Nothing
-contentOf Fin = Nothing
+abbrev pub content_of : Token → Found
+content_of Bad = Nothing
+content_of (Nop q) = Nothing
+content_of (Begin l q) = At q
+content_of (EndNode q) = Nothing
+content_of (Prop l a z q) = Nothing
+content_of Fin = Nothing
 
 -- the place after the name of the node at q
-abbrev pub contentAt : List ℕ → List ℕ → ℕ → Found
-contentAt b n q = contentOf (tokAt b n q)
+abbrev pub content_at : List ℕ → List ℕ → ℕ → Found
+content_at b n q = content_of (tok_at b n q)
 
-abbrev pub nameIn : List ℕ → ℕ → Token → List ℕ
-nameIn b q Bad = []
-nameIn b q (Nop r) = []
-nameIn b q (Begin l r) = bytes b (q + 4) (q + 4 + l)
-nameIn b q (EndNode r) = []
-nameIn b q (Prop l a z r) = []
-nameIn b q Fin = []
+abbrev pub name_in : List ℕ → ℕ → Token → List ℕ
+name_in b q Bad = []
+name_in b q (Nop r) = []
+name_in b q (Begin l r) = bytes b (q + 4) (q + 4 + l)
+name_in b q (EndNode r) = []
+name_in b q (Prop l a z r) = []
+name_in b q Fin = []
 
 abbrev pub name_at : List ℕ → List ℕ → ℕ → List ℕ
-name_at b n q = nameIn b q (tokAt b n q)
+name_at b n q = name_in b q (tok_at b n q)
 
 -- from the place after a node's name on, where a node begins at all
 abbrev pub inside : {A : Type 0} → A → (ℕ → A) → Found → A
@@ -62,91 +62,91 @@ inside missing f Nothing = missing
 -- ── Children ──
 
 -- the first node, past the properties
-abbrev pub firstKid : List Tok → Found
-firstKid [] = Nothing
-firstKid (begin p nm ∷ ts) = At p
-firstKid (ended ∷ ts) = Nothing
-firstKid (prop q ∷ ts) = firstKid ts
-firstKid (fin ∷ ts) = Nothing
-firstKid (bad ∷ ts) = Nothing
+abbrev pub first_kid : List Tok → Found
+first_kid [] = Nothing
+first_kid (begin p nm ∷ ts) = At p
+first_kid (ended ∷ ts) = Nothing
+first_kid (prop q ∷ ts) = first_kid ts
+first_kid (fin ∷ ts) = Nothing
+first_kid (bad ∷ ts) = Nothing
 
 -- the tokens past the end of the node of which d levels are open
-abbrev pub skipT : List Tok → ℕ → List Tok
-skipT [] d = []
-skipT (begin p nm ∷ ts) d = skipT ts (suc d)
-skipT (ended ∷ ts) zero = ts
-skipT (ended ∷ ts) (suc zero) = ts
-skipT (ended ∷ ts) (suc (suc d)) = skipT ts (suc d)
-skipT (prop q ∷ ts) d = skipT ts d
-skipT (fin ∷ ts) d = fin ∷ ts
-skipT (bad ∷ ts) d = bad ∷ ts
+abbrev pub skip_t : List Tok → ℕ → List Tok
+skip_t [] d = []
+skip_t (begin p nm ∷ ts) d = skip_t ts (suc d)
+skip_t (ended ∷ ts) zero = ts
+skip_t (ended ∷ ts) (suc zero) = ts
+skip_t (ended ∷ ts) (suc (suc d)) = skip_t ts (suc d)
+skip_t (prop q ∷ ts) d = skip_t ts d
+skip_t (fin ∷ ts) d = fin ∷ ts
+skip_t (bad ∷ ts) d = bad ∷ ts
 
 -- a node's first child: the tokens after its name
 unfoldable pub first_at : List ℕ → List ℕ → ℕ → Found
-first_at b n q = inside Nothing (λ p. firstKid (lexAt b n p)) (contentAt b n q)
+first_at b n q = inside Nothing (λ p. first_kid (lex_at b n p)) (content_at b n q)
 
 -- its next sibling: the tokens past its end
 unfoldable pub next_at : List ℕ → List ℕ → ℕ → Found
-next_at b n q = inside Nothing (λ p. firstKid (skipT (lexAt b n p) 1)) (contentAt b n q)
+next_at b n q = inside Nothing (λ p. first_kid (skip_t (lex_at b n p) 1)) (content_at b n q)
 
 -- ── Properties: "Of equal property names in a node the first counts" ──
 unfoldable pub lookup : List ℕ → List Tok → Value
 lookup name [] = Missing
 lookup name (begin p nm ∷ ts) = Missing
 lookup name (ended ∷ ts) = Missing
-lookup name (prop q ∷ ts) = cond (sameBytes q.name name) (Here (q.at + 12) (length q.value)) (lookup name ts)
+lookup name (prop q ∷ ts) = cond (same_bytes q.name name) (Here (q.at + 12) (length q.value)) (lookup name ts)
 lookup name (fin ∷ ts) = Missing
 lookup name (bad ∷ ts) = Missing
 
-unfoldable pub propAt : List ℕ → List ℕ → ℕ → List ℕ → Value
-propAt b n q name = inside Missing (λ p. lookup name (lexAt b n p)) (contentAt b n q)
+unfoldable pub prop_at : List ℕ → List ℕ → ℕ → List ℕ → Value
+prop_at b n q name = inside Missing (λ p. lookup name (lex_at b n p)) (content_at b n q)
 
 -- ── A child by a step ──
 
 -- the tokens from the first child of the step on, d levels up; none where there is no such child
-unfoldable pub findT : List ℕ → List Tok → ℕ → List Tok
-findT step [] d = []
-findT step (begin q nm ∷ ts) zero = cond (matches nm step) (begin q nm ∷ ts) (findT step ts 1)
-findT step (begin q nm ∷ ts) (suc d) = findT step ts (suc (suc d))
-findT step (ended ∷ ts) zero = []
-findT step (ended ∷ ts) (suc d) = findT step ts d
-findT step (prop q ∷ ts) d = findT step ts d
-findT step (fin ∷ ts) d = []
-findT step (bad ∷ ts) d = []
+unfoldable pub find_t : List ℕ → List Tok → ℕ → List Tok
+find_t step [] d = []
+find_t step (begin q nm ∷ ts) zero = cond (matches nm step) (begin q nm ∷ ts) (find_t step ts 1)
+find_t step (begin q nm ∷ ts) (suc d) = find_t step ts (suc (suc d))
+find_t step (ended ∷ ts) zero = []
+find_t step (ended ∷ ts) (suc d) = find_t step ts d
+find_t step (prop q ∷ ts) d = find_t step ts d
+find_t step (fin ∷ ts) d = []
+find_t step (bad ∷ ts) d = []
 
-unfoldable pub childAt : List ℕ → List ℕ → ℕ → List ℕ → Found
-childAt b n q step = inside Nothing (λ p. firstKid (findT step (lexAt b n p) 0)) (contentAt b n q)
+unfoldable pub child_at : List ℕ → List ℕ → ℕ → List ℕ → Found
+child_at b n q step = inside Nothing (λ p. first_kid (find_t step (lex_at b n p) 0)) (content_at b n q)
 
 -- ── The contracts of the steps inside ──
 
 -- past the properties
-unfoldable pub dropP : List Tok → List Tok
-dropP [] = []
-dropP (begin p nm ∷ ts) = begin p nm ∷ ts
-dropP (ended ∷ ts) = ended ∷ ts
-dropP (prop q ∷ ts) = dropP ts
-dropP (fin ∷ ts) = fin ∷ ts
-dropP (bad ∷ ts) = bad ∷ ts
+unfoldable pub drop_p : List Tok → List Tok
+drop_p [] = []
+drop_p (begin p nm ∷ ts) = begin p nm ∷ ts
+drop_p (ended ∷ ts) = ended ∷ ts
+drop_p (prop q ∷ ts) = drop_p ts
+drop_p (fin ∷ ts) = fin ∷ ts
+drop_p (bad ∷ ts) = bad ∷ ts
 
 pub record NodeIs (b n : List ℕ) (p q l r : ℕ) : Type 0 where
-  pub is : dropP (lexAt b n p) ≡ begin q (bytes b (q + 4) (q + 4 + l)) ∷ lexAt b n r
+  pub is : drop_p (lex_at b n p) ≡ begin q (bytes b (q + 4) (q + 4 + l)) ∷ lex_at b n r
   pub from : p ≤ q
   pub within : q + 4 + l < length b
   pub onward : q + 4 ≤ r
 
 pub record EndIs (b n : List ℕ) (p r : ℕ) : Type 0 where
-  pub is : dropP (lexAt b n p) ≡ ended ∷ lexAt b n r
+  pub is : drop_p (lex_at b n p) ≡ ended ∷ lex_at b n r
   pub onward : p + 4 ≤ r
 
 abbrev pub KidIs : List ℕ → List ℕ → ℕ → Kid → Type 0
 KidIs b n p (Node q l r) = NodeIs b n p q l r
 KidIs b n p (End r) = EndIs b n p r
-KidIs b n p Stuck = (e : Bool) × (dropP (lexAt b n p) ≡ cond e fin bad ∷ [])
+KidIs b n p Stuck = (e : Bool) × (drop_p (lex_at b n p) ≡ cond e fin bad ∷ [])
 
 pub record SkipsTo (b n : List ℕ) (p r : ℕ) : Type 0 where
-  pub is : lexAt b n r ≡ skipT (lexAt b n p) 1
+  pub is : lex_at b n r ≡ skip_t (lex_at b n p) 1
   pub onward : p ≤ r
 
 abbrev pub ChildIs : List ℕ → List ℕ → ℕ → List ℕ → Child → Type 0
-ChildIs b n p step (Is q r) = (nm : List ℕ) × (findT step (lexAt b n p) 0 ≡ begin q nm ∷ lexAt b n r)
-ChildIs b n p step Absent = findT step (lexAt b n p) 0 ≡ []
+ChildIs b n p step (Is q r) = (nm : List ℕ) × (find_t step (lex_at b n p) 0 ≡ begin q nm ∷ lex_at b n r)
+ChildIs b n p step Absent = find_t step (lex_at b n p) 0 ≡ []

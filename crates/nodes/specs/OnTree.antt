@@ -5,7 +5,7 @@ use Rattle.nodes.specs.declared.Found.{Found}
 use Rattle.nodes.specs.declared.Found.TheVariants.{At, Nothing}
 use Rattle.nodes.specs.declared.Value.{Value}
 use Rattle.nodes.specs.declared.Value.TheVariants.{Here, Missing}
-use Rattle.nodes.specs.Nav.{sameBytes, matches}
+use Rattle.nodes.specs.Nav.{same_bytes, matches}
 
 -- where the first of these nodes stands
 abbrev pub head_of : Nodes → Found
@@ -21,22 +21,22 @@ pub data Among : ℕ → List ℕ → List Property → Nodes → Nodes → Node
       → Among q nm ps kids rest rs → Among q nm ps kids rest (node p om os ks rs)
 
 -- "of equal property names in a node the first counts"
-unfoldable pub lookupIn : List ℕ → List Property → Value
-lookupIn name [] = Missing
-lookupIn name (q ∷ qs) = cond (sameBytes q.name name) (Here (q.at + 12) (length q.value)) (lookupIn name qs)
+unfoldable pub lookup_in : List ℕ → List Property → Value
+lookup_in name [] = Missing
+lookup_in name (q ∷ qs) = cond (same_bytes q.name name) (Here (q.at + 12) (length q.value)) (lookup_in name qs)
 
 -- the first of these nodes that is the step's, with the siblings after it
-unfoldable pub findK : List ℕ → Nodes → Nodes
-findK step none = none
-findK step (node q nm ps kids rest) = cond (matches nm step) (node q nm ps kids rest) (findK step rest)
+unfoldable pub find_k : List ℕ → Nodes → Nodes
+find_k step none = none
+find_k step (node q nm ps kids rest) = cond (matches nm step) (node q nm ps kids rest) (find_k step rest)
 
-abbrev pub kidsOf : Nodes → Nodes
-kidsOf none = none
-kidsOf (node q nm ps kids rest) = kids
+abbrev pub kids_of : Nodes → Nodes
+kids_of none = none
+kids_of (node q nm ps kids rest) = kids
 
 -- from a node on, a step at a time
-unfoldable pub goK : Nodes → List (List ℕ) → Found
-goK t [] = head_of t
-goK t ([] ∷ steps) = Nothing
-goK none ((x ∷ step) ∷ steps) = Nothing
-goK (node q nm ps kids rest) ((x ∷ step) ∷ steps) = goK (findK (x ∷ step) kids) steps
+unfoldable pub go_k : Nodes → List (List ℕ) → Found
+go_k t [] = head_of t
+go_k t ([] ∷ steps) = Nothing
+go_k none ((x ∷ step) ∷ steps) = Nothing
+go_k (node q nm ps kids rest) ((x ∷ step) ∷ steps) = go_k (find_k (x ∷ step) kids) steps

@@ -2,11 +2,11 @@
 // block and a place in the structure block; whatever these are, it answers. A node's place is that of its FDT_BEGIN_NODE token.
 ghost use Rattle.std.specs.Prelude.{◌≡◌, ◌||◌, ◌≤◌, length};
 ghost use Rattle.words.specs.Bytes.{bytes};
-ghost use Rattle.fdt.specs.Tree.{lexAt};
-ghost use Rattle.nodes.specs.Nav.{sameBytes, matches, contentAt, name_at, firstKid, KidIs, SkipsTo, first_at, next_at, lookup, propAt, ChildIs, childAt};
-ghost use Rattle.nodes.specs.Path.{pathAt};
-ghost use Rattle.nodes.specs.Order.{placeAt};
-ghost use Rattle.nodes.specs.Cells.{addressCells, sizeCells, countAt};
+ghost use Rattle.fdt.specs.Tree.{lex_at};
+ghost use Rattle.nodes.specs.Nav.{same_bytes, matches, content_at, name_at, first_kid, KidIs, SkipsTo, first_at, next_at, lookup, prop_at, ChildIs, child_at};
+ghost use Rattle.nodes.specs.Path.{path_at};
+ghost use Rattle.nodes.specs.Order.{place_at};
+ghost use Rattle.nodes.specs.Cells.{address_cells, size_cells, count_at};
 
 use cells::CellCount;
 use fdt::Token;
@@ -43,7 +43,7 @@ enum Child {
 
 // Whether two parts of bytes are the same.
 pub fn same<'a>(a: &'a [u8], b: &'a [u8]) -> bool
-    ensures { result ≡ sameBytes a.now b.now }
+    ensures { result ≡ same_bytes a.now b.now }
 {
     if a.len() != b.len() {
         return false;
@@ -71,7 +71,7 @@ pub fn is_step<'a>(name: &'a [u8], step: &'a [u8]) -> bool
 
 // The place after the name of the node at a place, or nothing where no node begins there.
 fn content_of<'a>(structure: &'a [u8], strings: &'a [u8], node: usize) -> Found
-    ensures { result ≡ contentAt structure.now strings.now node }
+    ensures { result ≡ content_at structure.now strings.now node }
 {
     match fdt::token_at(structure, strings, node) {
         Token::Begin(_, next) => Found::At(next),
@@ -163,7 +163,7 @@ fn skip<'a>(structure: &'a [u8], strings: &'a [u8], p: usize) -> usize
 
 // The first node from p on, past the properties.
 fn kid_from<'a>(structure: &'a [u8], strings: &'a [u8], p: usize) -> Found
-    ensures { result ≡ firstKid (lexAt structure.now strings.now p) }
+    ensures { result ≡ first_kid (lex_at structure.now strings.now p) }
 {
     match next_kid(structure, strings, p) {
         Kid::Node(q, _, _) => Found::At(q),
@@ -194,7 +194,7 @@ pub fn next_subnode<'a>(structure: &'a [u8], strings: &'a [u8], node: usize) -> 
 
 // The first property of a name from p on, before the first child.
 fn prop_from<'a>(structure: &'a [u8], strings: &'a [u8], p: usize, name: &'a [u8]) -> Value
-    ensures { result ≡ lookup name.now (lexAt structure.now strings.now p) }
+    ensures { result ≡ lookup name.now (lex_at structure.now strings.now p) }
 {
     let mut at = p;
     loop {
@@ -226,7 +226,7 @@ fn prop_from<'a>(structure: &'a [u8], strings: &'a [u8], p: usize, name: &'a [u8
 
 // The property of a name of the node at a place; of equal names the first counts.
 pub fn getprop<'a>(structure: &'a [u8], strings: &'a [u8], node: usize, name: &'a [u8]) -> Value
-    ensures { result ≡ propAt structure.now strings.now node name.now }
+    ensures { result ≡ prop_at structure.now strings.now node name.now }
 {
     let Found::At(p) = content_of(structure, strings, node) else {
         return Value::Missing;
@@ -259,7 +259,7 @@ fn child_from<'a>(structure: &'a [u8], strings: &'a [u8], p: usize, step: &'a [u
 
 // The first child of the node at a place whose whole name, or part before `@`, is the step.
 pub fn subnode<'a>(structure: &'a [u8], strings: &'a [u8], node: usize, step: &'a [u8]) -> Found
-    ensures { result ≡ childAt structure.now strings.now node step.now }
+    ensures { result ≡ child_at structure.now strings.now node step.now }
 {
     let Found::At(p) = content_of(structure, strings, node) else {
         return Found::Nothing;
@@ -272,7 +272,7 @@ pub fn subnode<'a>(structure: &'a [u8], strings: &'a [u8], node: usize, step: &'
 
 // The node that a path names from the root on. `/` alone is the root; any other empty step finds nothing.
 pub fn path_offset<'a>(structure: &'a [u8], strings: &'a [u8], path: &'a [u8]) -> Found
-    ensures { result ≡ pathAt structure.now strings.now path.now }
+    ensures { result ≡ path_at structure.now strings.now path.now }
 {
     let Found::At(root) = kid_from(structure, strings, 0) else {
         return Found::Nothing;
@@ -307,7 +307,7 @@ pub fn path_offset<'a>(structure: &'a [u8], strings: &'a [u8], path: &'a [u8]) -
 
 // The number of the node at a place among the nodes below the root, in document order, the root's first child being 1; 0 for none.
 pub fn place_of<'a>(structure: &'a [u8], strings: &'a [u8], target: usize) -> usize
-    ensures { result ≡ placeAt structure.now strings.now target }
+    ensures { result ≡ place_at structure.now strings.now target }
 {
     let mut at: usize = 0;
     let mut begun: usize = 0;
@@ -341,7 +341,7 @@ pub fn place_of<'a>(structure: &'a [u8], strings: &'a [u8], target: usize) -> us
 
 // What a cell property of the node at a place says of itself.
 fn count_of<'a>(structure: &'a [u8], strings: &'a [u8], node: usize, name: &'a [u8]) -> CellCount
-    ensures { result ≡ countAt structure.now strings.now node name.now }
+    ensures { result ≡ count_at structure.now strings.now node name.now }
 {
     match getprop(structure, strings, node, name) {
         Value::Here(at, len) => cells::stated(words::part(structure, at, len)),
@@ -350,13 +350,13 @@ fn count_of<'a>(structure: &'a [u8], strings: &'a [u8], node: usize, name: &'a [
 }
 
 pub fn address_cells<'a>(structure: &'a [u8], strings: &'a [u8], node: usize) -> CellCount
-    ensures { result ≡ countAt structure.now strings.now node addressCells }
+    ensures { result ≡ count_at structure.now strings.now node address_cells }
 {
     count_of(structure, strings, node, b"#address-cells")
 }
 
 pub fn size_cells<'a>(structure: &'a [u8], strings: &'a [u8], node: usize) -> CellCount
-    ensures { result ≡ countAt structure.now strings.now node sizeCells }
+    ensures { result ≡ count_at structure.now strings.now node size_cells }
 {
     count_of(structure, strings, node, b"#size-cells")
 }

@@ -8,38 +8,38 @@ use lib.ListN.{length, take, drop, length-append, get_or-append}
 use lib.Seq.{take-append_seam, drop-append_seam}
 use borrow.Author.Tests.{le-leb, lt-leb}
 use Rattle.words.specs.Little.{half, quarter}
-use Rattle.order.specs.Layout.{listCount, treeLength, GoodOrder, fileEnd}
+use Rattle.order.specs.Layout.{list_count, tree_length, GoodOrder, file_end}
 
 -- ── The ways through the code ──
-pub end_short : (s : List ℕ) → length s < 112 → fileEnd s ≡ length s
-unfolding fileEnd
+pub end_short : (s : List ℕ) → length s < 112 → file_end s ≡ length s
+unfolding file_end
 end_short s h = rw (lt-leb 112 (length s) h)
 
-pub end-held : (s : List ℕ) → 112 ≤ length s → fileEnd s ≡ min (length s) (112 + listCount s * 24 + treeLength s)
-unfolding fileEnd
-end-held s h = rw (le-leb 112 (length s) h)
+pub end_held : (s : List ℕ) → 112 ≤ length s → file_end s ≡ min (length s) (112 + list_count s * 24 + tree_length s)
+unfolding file_end
+end_held s h = rw (le-leb 112 (length s) h)
 
 -- ── With something behind it ──
-half-append : (s t : List ℕ) (at : ℕ) → at + 2 ≤ length s → half (s ++ t) at ≡ half s at
+half_append : (s t : List ℕ) (at : ℕ) → at + 2 ≤ length s → half (s ++ t) at ≡ half s at
 unfolding half
-half-append s t at h = rw (get_or-append s t 0 at (omega arith), get_or-append s t 0 (at + 1) (omega arith))
+half_append s t at h = rw (get_or-append s t 0 at (omega arith), get_or-append s t 0 (at + 1) (omega arith))
 
-quarter-append : (s t : List ℕ) (at : ℕ) → at + 4 ≤ length s → quarter (s ++ t) at ≡ quarter s at
+quarter_append : (s t : List ℕ) (at : ℕ) → at + 4 ≤ length s → quarter (s ++ t) at ≡ quarter s at
 unfolding quarter
-quarter-append s t at h = rw (half-append s t at (omega arith), half-append s t (at + 2) (omega arith))
+quarter_append s t at h = rw (half_append s t at (omega arith), half_append s t (at + 2) (omega arith))
 
 module _ {s : List ℕ} (g : GoodOrder s) (t : List ℕ) where
   -- "its length is what its header says"
-  pub file-end : fileEnd (s ++ t) ≡ length s
-  file-end =
+  pub file_end_lem : file_end (s ++ t) ≡ length s
+  file_end_lem =
       let long : length (s ++ t) ≡ length s + length t = length-append s t in
-      let list : listCount (s ++ t) ≡ listCount s = half-append s t 6 (omega (arith, g.least)) in
-      let tree : treeLength (s ++ t) ≡ treeLength s = quarter-append s t 104 (omega (arith, g.least)) in
-      end-held (s ++ t) (omega (arith, g.least)) ∙ omega (arith, g.whole)
+      let list : list_count (s ++ t) ≡ list_count s = half_append s t 6 (omega (arith, g.least)) in
+      let tree : tree_length (s ++ t) ≡ tree_length s = quarter_append s t 104 (omega (arith, g.least)) in
+      end_held (s ++ t) (omega (arith, g.least)) ∙ omega (arith, g.whole)
 
   -- the cut gives back the file and what follows
-  pub file-before : take (fileEnd (s ++ t)) (s ++ t) ≡ s
-  file-before = ap (λ (n : ℕ). take n (s ++ t)) file-end ∙ take-append_seam s t
+  pub file_before : take (file_end (s ++ t)) (s ++ t) ≡ s
+  file_before = ap (λ (n : ℕ). take n (s ++ t)) file_end_lem ∙ take-append_seam s t
 
-  pub file-behind : drop (fileEnd (s ++ t)) (s ++ t) ≡ t
-  file-behind = ap (λ (n : ℕ). drop n (s ++ t)) file-end ∙ drop-append_seam s t
+  pub file_behind : drop (file_end (s ++ t)) (s ++ t) ≡ t
+  file_behind = ap (λ (n : ℕ). drop n (s ++ t)) file_end_lem ∙ drop-append_seam s t

@@ -13,21 +13,21 @@ abbrev pub flags : List ℕ → ℕ
 flags s = get_or s 5 0
 
 -- "flags (1 arm, 2 low, 4 high ..)"
-abbrev pub armFlag : List ℕ → Bool
-armFlag s = eqb (flags s % 2) 1
+abbrev pub arm_flag : List ℕ → Bool
+arm_flag s = eqb (flags s % 2) 1
 
-abbrev pub lowFlag : List ℕ → Bool
-lowFlag s = eqb (flags s / 2 % 2) 1
+abbrev pub low_flag : List ℕ → Bool
+low_flag s = eqb (flags s / 2 % 2) 1
 
-abbrev pub highFlag : List ℕ → Bool
-highFlag s = eqb (flags s / 4 % 2) 1
+abbrev pub high_flag : List ℕ → Bool
+high_flag s = eqb (flags s / 4 % 2) 1
 
 -- "bytes 6-7 list count"; "104 tree length, 32 bits (0: no tree)"
-abbrev pub listCount : List ℕ → ℕ
-listCount s = half s 6
+abbrev pub list_count : List ℕ → ℕ
+list_count s = half s 6
 
-abbrev pub treeLength : List ℕ → ℕ
-treeLength s = quarter s 104
+abbrev pub tree_length : List ℕ → ℕ
+tree_length s = quarter s 104
 
 -- ── The layout ──
 pub record GoodOrder (s : List ℕ) : Type 0 where
@@ -43,16 +43,16 @@ pub record GoodOrder (s : List ℕ) : Type 0 where
   -- "others 0"
   pub flagged : flags s < 8
   -- "8 low; 16 high (each 0 if not flagged)"
-  pub low : lowFlag s ≡ false → eight s 8 ≡ 0
-  pub high : highFlag s ≡ false → eight s 16 ≡ 0
+  pub low : low_flag s ≡ false → eight s 8 ≡ 0
+  pub high : high_flag s ≡ false → eight s 16 ≡ 0
   -- "108 four zeros"
   pub zeros : quarter s 108 ≡ 0
   -- "112 list, tree, end"
-  pub whole : length s ≡ 112 + listCount s * 24 + treeLength s
+  pub whole : length s ≡ 112 + list_count s * 24 + tree_length s
 
 -- the test
-unfoldable pub goodOrder : List ℕ → Bool
-goodOrder s =
+unfoldable pub good_order : List ℕ → Bool
+good_order s =
     leb (length s) 65536
     && (leb 112 (length s)
     && (eqb (get_or s 0 0) 71
@@ -60,14 +60,14 @@ goodOrder s =
     && (eqb (get_or s 2 0) 79
     && (eqb (half s 3) 1
     && (ltb (flags s) 8
-    && ((lowFlag s || eqb (eight s 8) 0)
-    && ((highFlag s || eqb (eight s 16) 0)
+    && ((low_flag s || eqb (eight s 8) 0)
+    && ((high_flag s || eqb (eight s 16) 0)
     && (eqb (quarter s 108) 0
-    && eqb (length s) (112 + listCount s * 24 + treeLength s))))))))))
+    && eqb (length s) (112 + list_count s * 24 + tree_length s))))))))))
 
 -- ── What it says ──
-abbrev pub limitBy : Bool → ℕ → Limit
-limitBy flagged x = cond flagged (At x) Missing
+abbrev pub limit_by : Bool → ℕ → Limit
+limit_by flagged x = cond flagged (At x) Missing
 
 -- "24 five pairs base, size: kernel, env, hwdesc, bootstrap, stack"
 abbrev pub pair_at : List ℕ → ℕ → Region
@@ -76,29 +76,29 @@ pair_at s i = record { address = eight s (24 + i * 16); size = eight s (32 + i *
 unfoldable pub order_in : List ℕ → Order
 order_in s =
     record {
-      arm = armFlag s;
-      low = limitBy (lowFlag s) (eight s 8);
-      high = limitBy (highFlag s) (eight s 16);
+      arm = arm_flag s;
+      low = limit_by (low_flag s) (eight s 8);
+      high = limit_by (high_flag s) (eight s 16);
       kernel = pair_at s 0;
       env = pair_at s 1;
       hwdesc = pair_at s 2;
       bootstrap = pair_at s 3;
       stack = pair_at s 4;
-      list = record { at = 112; len = listCount s * 24 };
-      tree = record { at = 112 + listCount s * 24; len = treeLength s };
+      list = record { at = 112; len = list_count s * 24 };
+      tree = record { at = 112 + list_count s * 24; len = tree_length s };
     }
 
 -- "Numbers a caller gets back"
-abbrev pub orderNumber : OrderRead → ℕ
-orderNumber (Layout o) = 0
-orderNumber BadOrder = 9
+abbrev pub order_number : OrderRead → ℕ
+order_number (Layout o) = 0
+order_number BadOrder = 9
 
 -- 9: "order file breaks its layout, or is longer than 65,536"
 unfoldable pub order_of : List ℕ → OrderRead
-order_of s = cond (goodOrder s) (Layout (order_in s)) BadOrder
+order_of s = cond (good_order s) (Layout (order_in s)) BadOrder
 
 -- ── What follows a file ──
 -- how many bytes at the start of s are the order file, whatever follows it: its length is what its header says; all of them where s is
 -- shorter than a header, or than that length
-unfoldable pub fileEnd : List ℕ → ℕ
-fileEnd s = cond (leb 112 (length s)) (min (length s) (112 + listCount s * 24 + treeLength s)) (length s)
+unfoldable pub file_end : List ℕ → ℕ
+file_end s = cond (leb 112 (length s)) (min (length s) (112 + list_count s * 24 + tree_length s)) (length s)

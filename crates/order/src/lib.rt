@@ -1,7 +1,7 @@
 // The order file's layout.
 ghost use Rattle.std.specs.Prelude.{◌≡◌, ◌≤◌, ◌<◌, length, eqb, ◌||◌};
 ghost use Rattle.words.specs.Little.{eight};
-ghost use Rattle.order.specs.Layout.{limitBy, pair_at, goodOrder, order_in, orderNumber, order_of, fileEnd};
+ghost use Rattle.order.specs.Layout.{limit_by, pair_at, good_order, order_in, order_number, order_of, file_end};
 
 use areas::Limit;
 use cells::Region;
@@ -31,7 +31,7 @@ pub enum OrderRead {
 
 impl OrderRead {
     pub fn number(self) -> u8
-        ensures { result ≡ orderNumber self }
+        ensures { result ≡ order_number self }
     {
         match self {
             OrderRead::Layout(_) => 0,
@@ -52,7 +52,7 @@ fn limit_good(s: &[u8], flagged: bool, at: usize) -> bool
 
 // Whether the bytes keep the layout.
 fn good_order(s: &[u8]) -> bool
-    ensures { result ≡ goodOrder s.now }
+    ensures { result ≡ good_order s.now }
 {
     if 65536 < s.len() {
         return false;
@@ -90,7 +90,7 @@ fn good_order(s: &[u8]) -> bool
 
 // The limit at a place, missing where it is not flagged.
 fn limit_by(s: &[u8], flagged: bool, at: usize) -> Limit
-    ensures { result ≡ limitBy flagged (eight s.now at) }
+    ensures { result ≡ limit_by flagged (eight s.now at) }
 {
     if flagged {
         return Limit::At(words::le64(s, at));
@@ -145,7 +145,7 @@ pub fn read_order(s: &[u8]) -> OrderRead
 
 // How many bytes at the start of the input are the order file, by its header, so that a caller can put something behind it.
 pub fn file_end(input: &[u8]) -> usize
-    ensures value { result ≡ fileEnd input.now }
+    ensures value { result ≡ file_end input.now }
     ensures upper_bound { result ≤ length input.now }
 {
     if input.len() < 112 {

@@ -6,16 +6,16 @@ use Rattle.bootloader.specs.List.{claims}
 use Rattle.runs.specs.Sets.{Some}
 use Rattle.runs.specs.Refusals.{Kindless, Overflows}
 use Rattle.areas.specs.Interval.{Interval}
-use Rattle.areas.specs.Table.{slotsIn}
-use Rattle.demand3.specs.Rule.{areasAfter}
-use Rattle.fdt.specs.Header.{structureOf, stringsOf}
+use Rattle.areas.specs.Table.{slots_in}
+use Rattle.demand3.specs.Rule.{areas_after}
+use Rattle.fdt.specs.Header.{structure_of, strings_of}
 use Rattle.fdt.specs.Tree.{Nodes, tree_of}
 use Rattle.grammar.specs.Numbers.{HeaderBroken, OverLimits, StructureBroken, Opens}
 use Rattle.tree_theorems.specs.Unreadable.{BadReserved, BadSoc}
 use Rattle.order.specs.Layout.{GoodOrder, order_in}
 use Rattle.startup.specs.declared.Refusal.{Refusal}
 use Rattle.startup.specs.declared.Refusal.TheVariants.{BadOrder, UnknownKind, BadHeader, OverLimit, BadStructure, UnreadableReg, UnreadableRanges, MapFull, TooManyAreas}
-use Rattle.startup.specs.Sources.{listIn, treeIn, registrations}
+use Rattle.startup.specs.Sources.{list_in, tree_in, registrations}
 
 -- "Checked in this order"
 abbrev pub rank : Refusal → ℕ
@@ -30,40 +30,40 @@ rank MapFull = 7
 rank TooManyAreas = 8
 
 -- the registrations of a file, read by its layout, and its finished areas
-abbrev pub fileClaims : List ℕ → List Claim
-fileClaims s = registrations s (order_in s)
+abbrev pub file_claims : List ℕ → List Claim
+file_claims s = registrations s (order_in s)
 
-abbrev pub fileAreas : ℕ → List ℕ → List Interval
-fileAreas p s = areasAfter p (order_in s).low (order_in s).high (fileClaims s)
+abbrev pub file_areas : ℕ → List ℕ → List Interval
+file_areas p s = areas_after p (order_in s).low (order_in s).high (file_claims s)
 
 -- the tree's bytes, and the tree
-abbrev pub fileTree : List ℕ → List ℕ
-fileTree s = treeIn s (order_in s)
+abbrev pub file_tree : List ℕ → List ℕ
+file_tree s = tree_in s (order_in s)
 
-abbrev pub fileRoot : List ℕ → Nodes
-fileRoot s = tree_of (structureOf (fileTree s)) (stringsOf (fileTree s))
+abbrev pub file_root : List ℕ → Nodes
+file_root s = tree_of (structure_of (file_tree s)) (strings_of (file_tree s))
 
 abbrev pub HasTree : List ℕ → Type 0
-HasTree s = Opens (fileTree s)
+HasTree s = Opens (file_tree s)
 
 -- what each row says
 abbrev pub Row : ℕ → List ℕ → List ℕ → Refusal → Type 0
 -- 9: "order file breaks its layout, or is longer than 65,536"
 Row p s l BadOrder = GoodOrder s → ⊥
 -- 1: "a kind is none of the seven, size 0 included"
-Row p s l UnknownKind = Some Kindless (claims (listIn s (order_in s)))
+Row p s l UnknownKind = Some Kindless (claims (list_in s (order_in s)))
 -- 4: "tree header broken"; 6: "tree over a size, level or node limit"; 5: "tree structure broken"
-Row p s l BadHeader = HeaderBroken (fileTree s)
-Row p s l OverLimit = OverLimits (fileTree s)
-Row p s l BadStructure = StructureBroken (fileTree s)
+Row p s l BadHeader = HeaderBroken (file_tree s)
+Row p s l OverLimit = OverLimits (file_tree s)
+Row p s l BadStructure = StructureBroken (file_tree s)
 -- 7: "a counted reserved child's nonempty `reg` is unreadable"
-Row p s l UnreadableReg = HasTree s × BadReserved (fileRoot s)
+Row p s l UnreadableReg = HasTree s × BadReserved (file_root s)
 -- 8: "a readable /soc entry meets an unreadable `ranges`"
-Row p s l UnreadableRanges = HasTree s × BadSoc (order_in s).arm (fileRoot s)
+Row p s l UnreadableRanges = HasTree s × BadSoc (order_in s).arm (file_root s)
 -- 2: "map full"
-Row p s l MapFull = Overflows p blank (fileClaims s)
+Row p s l MapFull = Overflows p blank (file_claims s)
 -- 3: "more areas than slots"
-Row p s l TooManyAreas = slotsIn l < length (fileAreas p s)
+Row p s l TooManyAreas = slots_in l < length (file_areas p s)
 
 -- "Given exactly when" its row says so, and no row above it does
 abbrev pub Due : ℕ → List ℕ → List ℕ → Refusal → Type 0

@@ -8,7 +8,7 @@ use native.Mathlib.Nat.{mul-div_cancel, le_of_mul-le-mul_right, lt_of_mul-lt-mul
 use lib.Dec.{leb, ltb}
 use borrow.Author.Tests.{leb-true, leb-false, ltb-true, ltb-false}
 use Rattle.page_count.specs.Pages.{count_to}
-use Rattle.page_count.proofs.Reading.{false-true}
+use Rattle.page_count.proofs.Reading.{false_true}
 
 -- tests that agree
 pub count_same : (n : ℕ) (f g : ℕ → Bool) → ((i : ℕ) → f i ≡ g i) → count_to n f ≡ count_to n g
@@ -27,10 +27,10 @@ count_none (suc n) f nothing = go (count_none n f nothing) (f n) refl
     go more false e = more
 
 -- tests that never both hold
-pub count-or : (n : ℕ) (f g : ℕ → Bool) → ((i : ℕ) → f i ≡ true → g i ≡ true → ⊥) → count_to n f + count_to n g ≡ count_to n (λ i. f i || g i)
+pub count_or : (n : ℕ) (f g : ℕ → Bool) → ((i : ℕ) → f i ≡ true → g i ≡ true → ⊥) → count_to n f + count_to n g ≡ count_to n (λ i. f i || g i)
 unfolding count_to
-count-or zero f g off = omega arith
-count-or (suc n) f g off = go (count-or n f g off) (f n) (g n) refl refl
+count_or zero f g off = omega arith
+count_or (suc n) f g off = go (count_or n f g off) (f n) (g n) refl refl
   where
     go : count_to n f + count_to n g ≡ count_to n (λ i. f i || g i) → (b c : Bool) → f n ≡ b → g n ≡ c
         → cond b (suc (count_to n f)) (count_to n f) + cond c (suc (count_to n g)) (count_to n g) ≡ cond (b || c) (suc (count_to n (λ i. f i || g i))) (count_to n (λ i. f i || g i))
@@ -46,13 +46,13 @@ parts true false = refl
 parts false c = refl
 
 never_both : (b c : Bool) → (b && not c) ≡ true → (b && c) ≡ true → ⊥
-never_both true true d e = false-true d
-never_both true false d e = false-true e
-never_both false c d e = false-true d
+never_both true true d e = false_true d
+never_both true false d e = false_true e
+never_both false c d e = false_true d
 
-pub count-parts : (n : ℕ) (f g : ℕ → Bool) → count_to n (λ i. f i && not (g i)) + count_to n (λ i. f i && g i) ≡ count_to n f
-count-parts n f g =
-    count-or n (λ i. f i && not (g i)) (λ i. f i && g i) (λ i. never_both (f i) (g i))
+pub count_parts : (n : ℕ) (f g : ℕ → Bool) → count_to n (λ i. f i && not (g i)) + count_to n (λ i. f i && g i) ≡ count_to n f
+count_parts n f g =
+    count_or n (λ i. f i && not (g i)) (λ i. f i && g i) (λ i. never_both (f i) (g i))
     ∙ count_same n (λ i. (f i && not (g i)) || (f i && g i)) f (λ i. parts (f i) (g i))
 
 -- ── A stretch of pages ──

@@ -19,12 +19,12 @@ abbrev pub has : MemoryEntry → ℕ → Bool
 has e x = leb e.start x && ltb x e.end
 
 -- "inside some single Free registration rounded inward by itself"
-abbrev pub freeOver : ℕ → ℕ → Claim → Bool
-freeOver p x c = eqb c.kind (number_of Free) && (not (eqb c.size 0) && has (inward p c) x)
+abbrev pub free_over : ℕ → ℕ → Claim → Bool
+free_over p x c = eqb c.kind (number_of Free) && (not (eqb c.size 0) && has (inward p c) x)
 
 -- "a non-Free registration, rounded, covers"; "Null or size 0 registers nothing"
-abbrev pub otherOver : ℕ → ℕ → Claim → Bool
-otherOver p x c =
+abbrev pub other_over : ℕ → ℕ → Claim → Bool
+other_over p x c =
     not (eqb c.kind (number_of Free)) && (not (eqb c.kind (number_of Null)) && (not (eqb c.size 0) && has (outward p c) x))
 
 unfoldable pub any : (Claim → Bool) → List Claim → Bool
@@ -32,10 +32,10 @@ any t [] = false
 any t (c ∷ cs) = t c || any t cs
 
 -- page i is Free, inside the limits
-unfoldable pub freeAt : ℕ → Limit → Limit → List Claim → ℕ → Bool
-freeAt p low high cs i =
-    leb (up p (or_else low 0)) (i * p) && (ltb (i * p) (down p (or_else high (2 ^ 64 - 1))) && any (freeOver p (i * p)) cs)
+unfoldable pub free_at : ℕ → Limit → Limit → List Claim → ℕ → Bool
+free_at p low high cs i =
+    leb (up p (or_else low 0)) (i * p) && (ltb (i * p) (down p (or_else high (2 ^ 64 - 1))) && any (free_over p (i * p)) cs)
 
 -- page i is covered by another registration
-unfoldable pub takenAt : ℕ → List Claim → ℕ → Bool
-takenAt p cs i = any (otherOver p (i * p)) cs
+unfoldable pub taken_at : ℕ → List Claim → ℕ → Bool
+taken_at p cs i = any (other_over p (i * p)) cs

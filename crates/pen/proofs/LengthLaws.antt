@@ -4,10 +4,10 @@ use Prim.Native.Nat.{ℕ}
 use lib.ListN.{length}
 use Rattle.pen.specs.Numbers.{bytes4, bytes8}
 
-pub bytes4-length : (w : ℕ) → length (bytes4 w) ≡ 4
+pub bytes4_length : (w : ℕ) → length (bytes4 w) ≡ 4
 unfolding bytes4
-bytes4-length w = refl
+bytes4_length w = refl
 
-pub bytes8-length : (w : ℕ) → length (bytes8 w) ≡ 8
+pub bytes8_length : (w : ℕ) → length (bytes8 w) ≡ 8
 unfolding bytes8 bytes4
-bytes8-length w = refl
+bytes8_length w = refl

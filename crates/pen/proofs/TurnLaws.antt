@@ -29,14 +29,14 @@ get_d_reverse (x ∷ l) i h = ap (λ (s : List ℕ). get_or s i 0) (reverse-cons
 
 -- ── The loop that puts them last to first: one more byte ──
 module _ {out₀ : List ℕ} {at : ℕ} (bytes : List ℕ) {out : List ℕ} {i : ℕ} (inv : Putting out₀ at (reverse bytes) out i) where
-  pub more-turned : at + length bytes ≤ length out₀ → i < length bytes → Putting out₀ at (reverse bytes) (set out (at + i) (get_or bytes (length bytes - 1 - i) 0)) (i + 1)
-  more-turned fits lt =
+  pub more_turned : at + length bytes ≤ length out₀ → i < length bytes → Putting out₀ at (reverse bytes) (set out (at + i) (get_or bytes (length bytes - 1 - i) 0)) (i + 1)
+  more_turned fits lt =
       let r = length-reverse bytes in
       subst (λ (v : ℕ). Putting out₀ at (reverse bytes) (set out (at + i) v) (i + 1)) (get_d_reverse bytes i lt) (more inv (omega arith) (omega arith))
 
 module _ {out₀ : List ℕ} {at : ℕ} (n : ℕ) {out : List ℕ} {i : ℕ} (inv : Putting out₀ at (replicate n 0) out i) where
-  pub more-zeros : at + n ≤ length out₀ → i < n → Putting out₀ at (replicate n 0) (set out (at + i) 0) (i + 1)
-  more-zeros fits lt =
+  pub more_zeros : at + n ≤ length out₀ → i < n → Putting out₀ at (replicate n 0) (set out (at + i) 0) (i + 1)
+  more_zeros fits lt =
       let r = length-replicate {A = ℕ} n 0 in
       subst (λ (v : ℕ). Putting out₀ at (replicate n 0) (set out (at + i) v) (i + 1)) (get_or-replicate n i 0 0 lt) (more inv (omega arith) (omega arith))
 
@@ -51,8 +51,8 @@ pub record Turning (l : List ℕ) (from : ℕ) (out : List ℕ) (lo hi : ℕ) : 
   pub high : (i : ℕ) → hi ≤ i → i < length l → get_or out i 0 ≡ get_or l (from + length l - 1 - i) 0
   pub middle : (i : ℕ) → lo ≤ i → i < hi → get_or out i 0 ≡ get_or l i 0
 
-pub turn-begins : {l : List ℕ} {from : ℕ} → from ≤ length l → Turning l from l from (length l)
-turn-begins {l} {from} h =
+pub turn_begins : {l : List ℕ} {from : ℕ} → from ≤ length l → Turning l from l from (length l)
+turn_begins {l} {from} h =
     record {
       start = omega arith;
       order = h;
@@ -117,8 +117,8 @@ module _ {l : List ℕ} {from : ℕ} {out : List ℕ} {lo hi : ℕ} (t : Turning
             let q : i ≡ hi - 1 → ⊥ = eqb-false _ _ e in
             other i (λ e. omega arith) q ∙ t.high i (omega arith) v
 
-  pub turn-ends : from ≤ length l → hi ≤ lo + 1 → out ≡ take from l ++ reverse (drop from l)
-  turn-ends fits over =
+  pub turn_ends : from ≤ length l → hi ≤ lo + 1 → out ≡ take from l ++ reverse (drop from l)
+  turn_ends fits over =
       ext_get_or 0 out (take from l ++ reverse (drop from l))
       (t.size ∙ sym (length-append (take from l) (reverse (drop from l)) ∙ omega (arith, lt, lr)))
       (λ i h. go i (omega (arith, t.size)) (ltb i from) refl)
@@ -156,11 +156,11 @@ module _ {l : List ℕ} {from : ℕ} {out : List ℕ} {lo hi : ℕ} (t : Turning
           ∙ get_or-drop from l (length (drop from l) - 1 - (i - from)) 0 ∙ ap (λ (k : ℕ). get_or l k 0) m)
 
 -- past the end there is nothing to turn
-nothing-past : (n : ℕ) (l : List ℕ) → length l ≤ n → drop n l ≡ []
-nothing-past zero [] h = refl
-nothing-past zero (x ∷ l) h = absurd (omega arith)
-nothing-past (suc n) [] h = refl
-nothing-past (suc n) (x ∷ l) h = nothing-past n l (omega arith)
+nothing_past : (n : ℕ) (l : List ℕ) → length l ≤ n → drop n l ≡ []
+nothing_past zero [] h = refl
+nothing_past zero (x ∷ l) h = absurd (omega arith)
+nothing_past (suc n) [] h = refl
+nothing_past (suc n) (x ∷ l) h = nothing_past n l (omega arith)
 
-pub turn-none : (l : List ℕ) (from : ℕ) → length l < from → l ≡ take from l ++ reverse (drop from l)
-turn-none l from h = sym (ap (λ (s : List ℕ). take from l ++ reverse s) (nothing-past from l (omega arith)) ∙ append-nil (take from l) ∙ take_all from l (omega arith))
+pub turn_none : (l : List ℕ) (from : ℕ) → length l < from → l ≡ take from l ++ reverse (drop from l)
+turn_none l from h = sym (ap (λ (s : List ℕ). take from l ++ reverse s) (nothing_past from l (omega arith)) ∙ append-nil (take from l) ∙ take_all from l (omega arith))

@@ -23,8 +23,8 @@ module _ {at n long : ℕ} {r : Bool} (is : HasRoom at n long r) where
 pub nothing_put : {out : List ℕ} {at : ℕ} {text : List ℕ} → length out < at + length text → Put out at text out at
 nothing_put h = record { fits = λ f. absurd (omega arith); short = λ s. (refl, refl) }
 
-pub all-put : {out : List ℕ} {at : ℕ} {text out' : List ℕ} {r : ℕ} → at + length text ≤ length out → Writes out at text out' r → Put out at text out' r
-all-put h w = record { fits = λ f. w; short = λ s. absurd (omega arith) }
+pub all_put : {out : List ℕ} {at : ℕ} {text out' : List ℕ} {r : ℕ} → at + length text ≤ length out → Writes out at text out' r → Put out at text out' r
+all_put h w = record { fits = λ f. w; short = λ s. absurd (omega arith) }
 
 -- ── The loop ──
 -- the first i bytes are put
@@ -81,8 +81,8 @@ module _ {a : List ℕ} {at : ℕ} {x b : List ℕ} {q : ℕ} (first : Writes a 
     place : at + length x + length y ≡ at + length (x ++ y)
     place = add_assoc at (length x) (length y) ∙ ap (λ (k : ℕ). at + k) (sym (length-append x y))
 
-    pub writes-append : at ≤ length a → Writes a at (x ++ y) c r
-    writes-append h =
+    pub writes_append : at ≤ length a → Writes a at (x ++ y) c r
+    writes_append h =
         record {
           put =
               second.put
@@ -99,21 +99,21 @@ module _ {a : List ℕ} {at : ℕ} {x b : List ℕ} {q : ℕ} (first : Writes a 
 abbrev pub Lands : List ℕ → ℕ → List ℕ → List ℕ → ℕ → Type 0
 Lands a at x b r = at + length x ≤ length a → Writes a at x b r
 
-pub and-then : {a : List ℕ} {at : ℕ} {x b : List ℕ} {q : ℕ} {y c : List ℕ} {r : ℕ} → Put a at x b q → Lands b q y c r → Lands a at (x ++ y) c r
-and-then {a} {at} {x} {b} {q} {y} p k h =
+pub and_then_lem : {a : List ℕ} {at : ℕ} {x b : List ℕ} {q : ℕ} {y c : List ℕ} {r : ℕ} → Put a at x b q → Lands b q y c r → Lands a at (x ++ y) c r
+and_then_lem {a} {at} {x} {b} {q} {y} p k h =
     let n = length-append x y in
     let w = p.fits (omega arith) in
     let l = kept w (omega arith) in
-    writes-append w (k (omega arith)) (omega arith)
+    writes_append w (k (omega arith)) (omega arith)
 
-pub as-text : {a : List ℕ} {at : ℕ} {x y b : List ℕ} {r : ℕ} → x ≡ y → Lands a at x b r → Lands a at y b r
-as-text {a} {at} {x} {y} {b} {r} e k = subst (λ (t : List ℕ). Lands a at t b r) e k
+pub as_text : {a : List ℕ} {at : ℕ} {x y b : List ℕ} {r : ℕ} → x ≡ y → Lands a at x b r → Lands a at y b r
+as_text {a} {at} {x} {y} {b} {r} e k = subst (λ (t : List ℕ). Lands a at t b r) e k
 
 -- ── A text at the start ──
 module _ {a x b : List ℕ} {q : ℕ} (w : Writes a 0 x b q) where
   -- what is answered is how much of the buffer is text, and the buffer has it
-  pub text-length : q ≡ length (take q b)
-  text-length = omega (arith, w.end, ap length (front w (omega arith)), length-append (take 0 a) x, length-take 0 a)
+  pub text_length : q ≡ length (take q b)
+  text_length = omega (arith, w.end, ap length (front w (omega arith)), length-append (take 0 a) x, length-take 0 a)
 
-  pub text-inside : q ≤ length b
-  text-inside = omega (arith, text-length, length-take q b)
+  pub text_inside : q ≤ length b
+  text_inside = omega (arith, text_length, length-take q b)

@@ -6,15 +6,15 @@ use native.Mathlib.Omega.{arith}
 use mathlib.Core.List.{List, [], ◌∷◌}
 use lib.ListN.{length, get_or}
 use lib.Dec.{eqb}
-use Rattle.words.proofs.BytesLaws.{cond-elim}
+use Rattle.words.proofs.BytesLaws.{cond_elim}
 use Rattle.fdt.specs.Tree.{Property, Nodes, none, node}
 use Rattle.nodes.specs.declared.Found.{Found}
 use Rattle.nodes.specs.declared.Found.TheVariants.{At, Nothing}
-use Rattle.nodes.specs.Nav.{inside, first_at, next_at, childAt, matches}
-use Rattle.nodes.specs.Path.{stepsFrom, goFrom, pathAt}
-use Rattle.nodes.specs.OnTree.{Among, first, below, after, head_of, findK, goK}
+use Rattle.nodes.specs.Nav.{inside, first_at, next_at, child_at, matches}
+use Rattle.nodes.specs.Path.{steps_from, go_from, path_at}
+use Rattle.nodes.specs.OnTree.{Among, first, below, after, head_of, find_k, go_k}
 use Rattle.reading.specs.Reads.{WrittenFor}
-use Rattle.reading.specs.Paths.{pathIn, NodeIn}
+use Rattle.reading.specs.Paths.{path_in, NodeIn}
 use Rattle.reading.proofs.Reading.{reads}
 
 -- ── Nodes among nodes ──
@@ -33,11 +33,11 @@ module _ {q : ℕ} {nm : List ℕ} {ps : List Property} {kids rest : Nodes} wher
     beside (after a) x = after (beside a x)
 
   -- what a step finds is among the nodes that it looks through
-  pub found : (step : List ℕ) (ks : Nodes) → Among q nm ps kids rest (findK step ks) → Among q nm ps kids rest ks
-  unfolding findK
+  pub found : (step : List ℕ) (ks : Nodes) → Among q nm ps kids rest (find_k step ks) → Among q nm ps kids rest ks
+  unfolding find_k
   found step none x = x
   found step (node r om os ks rs) x =
-      cond-elim (λ (f : Nodes). Among q nm ps kids rest f → Among q nm ps kids rest (node r om os ks rs)) (matches om step) _ _ (λ e y. y)
+      cond_elim (λ (f : Nodes). Among q nm ps kids rest f → Among q nm ps kids rest (node r om os ks rs)) (matches om step) _ _ (λ e y. y)
       (λ e y. after (found step rs y)) x
 
 -- ── Answers are nodes ──
@@ -55,66 +55,66 @@ head_in none h = no_place h
 head_in (node r nm ps kids rest) h =
     subst (NodeIn (node r nm ps kids rest)) (cc) (record { name = nm; properties = ps; kids = kids; rest = rest; among = first })
 
-go-in : (steps : List (List ℕ)) (t : Nodes) {q : ℕ} → goK t steps ≡ At q → NodeIn t q
-unfolding goK
-go-in [] t h = head_in t h
-go-in ([] ∷ steps) t h = no_place h
-go-in ((x ∷ step) ∷ steps) none h = no_place h
-go-in ((x ∷ step) ∷ steps) (node r nm ps kids rest) h =
-    let i = go-in steps (findK (x ∷ step) kids) h in carried i (below (found (x ∷ step) kids i.among))
+go_in : (steps : List (List ℕ)) (t : Nodes) {q : ℕ} → go_k t steps ≡ At q → NodeIn t q
+unfolding go_k
+go_in [] t h = head_in t h
+go_in ([] ∷ steps) t h = no_place h
+go_in ((x ∷ step) ∷ steps) none h = no_place h
+go_in ((x ∷ step) ∷ steps) (node r nm ps kids rest) h =
+    let i = go_in steps (find_k (x ∷ step) kids) h in carried i (below (found (x ∷ step) kids i.among))
 
 -- a path leads to a node of the tree, or to nothing
-pub path-in : (t : Nodes) (path : List ℕ) {q : ℕ} → pathIn t path ≡ At q → NodeIn t q
-unfolding pathIn
-path-in t path {q = q} h =
+pub path_in_lem : (t : Nodes) (path : List ℕ) {q : ℕ} → path_in t path ≡ At q → NodeIn t q
+unfolding path_in
+path_in_lem t path {q = q} h =
     let P : Found → Type 0 = λ f. f ≡ At q → NodeIn t q in
-    cond-elim P (eqb (length path) 0) _ _ (λ e. no_place)
-    (λ e. cond-elim P (eqb (get_or path 0 0) 47) _ _
-    (λ e. cond-elim P (eqb (length path) 1) _ _ (λ e. head_in t) (λ e. go-in (stepsFrom (length path) path 1) t))
+    cond_elim P (eqb (length path) 0) _ _ (λ e. no_place)
+    (λ e. cond_elim P (eqb (get_or path 0 0) 47) _ _
+    (λ e. cond_elim P (eqb (length path) 1) _ _ (λ e. head_in t) (λ e. go_in (steps_from (length path) path 1) t))
     (λ e. no_place))
     h
 
 -- ── Paths ──
-go-none : (steps : List (List ℕ)) → Nothing ≡ goK none steps
-unfolding goK
-go-none [] = refl
-go-none ([] ∷ steps) = refl
-go-none ((x ∷ step) ∷ steps) = refl
+go_none : (steps : List (List ℕ)) → Nothing ≡ go_k none steps
+unfolding go_k
+go_none [] = refl
+go_none ([] ∷ steps) = refl
+go_none ((x ∷ step) ∷ steps) = refl
 
 module _ (b n : List ℕ) (root : ℕ) (ps : List Property) (kids : Nodes) (w : WrittenFor b n root ps kids) where
   -- from a node on, a step at a time
   go : {q : ℕ} {nm : List ℕ} {os : List Property} {ks rest : Nodes} → (steps : List (List ℕ)) → Among q nm os ks rest (node root [] ps kids none)
-      → goFrom b n q steps ≡ goK (node q nm os ks rest) steps
-  unfolding goFrom goK
+      → go_from b n q steps ≡ go_k (node q nm os ks rest) steps
+  unfolding go_from go_k
   go [] a = refl
   go ([] ∷ steps) a = refl
   go {ks = ks} ((x ∷ step) ∷ steps) a =
       rw ((reads b n root ps kids w a).child (x ∷ step))
-      (each (findK (x ∷ step) ks) (λ q nm os ls rest f. go steps (under a (found (x ∷ step) ks f))))
+      (each (find_k (x ∷ step) ks) (λ q nm os ls rest f. go steps (under a (found (x ∷ step) ks f))))
     where
       each : (f : Nodes)
-          → ((q : ℕ) (nm : List ℕ) (os : List Property) (ls rest : Nodes) → Among q nm os ls rest f → goFrom b n q steps ≡ goK (node q nm os ls rest) steps)
-          → inside Nothing (λ r. goFrom b n r steps) (head_of f) ≡ goK f steps
-      each none s = go-none steps
+          → ((q : ℕ) (nm : List ℕ) (os : List Property) (ls rest : Nodes) → Among q nm os ls rest f → go_from b n q steps ≡ go_k (node q nm os ls rest) steps)
+          → inside Nothing (λ r. go_from b n r steps) (head_of f) ≡ go_k f steps
+      each none s = go_none steps
       each (node q nm os ls rest) s = s q nm os ls rest first
 
   -- THE THEOREM: a path leads where it leads in the tree
-  pub path : (p : List ℕ) → pathAt b n p ≡ pathIn (node root [] ps kids none) p
-  unfolding pathAt pathIn
-  path p = rw (w, go (stepsFrom (length p) p 1) first)
+  pub path : (p : List ℕ) → path_at b n p ≡ path_in (node root [] ps kids none) p
+  unfolding path_at path_in
+  path p = rw (w, go (steps_from (length p) p 1) first)
 
   -- and so to a node of it, or to nothing
-  pub path-node : (p : List ℕ) {q : ℕ} → pathAt b n p ≡ At q → NodeIn (node root [] ps kids none) q
-  path-node p h = path-in (node root [] ps kids none) p (sym (path p) ∙ h)
+  pub path_node : (p : List ℕ) {q : ℕ} → path_at b n p ≡ At q → NodeIn (node root [] ps kids none) q
+  path_node p h = path_in_lem (node root [] ps kids none) p (sym (path p) ∙ h)
 
   -- and at a node of the tree, its first child, next sibling and child of a step are nodes of the tree too
   module _ {q : ℕ} {nm : List ℕ} {os : List Property} {ks rest : Nodes} (a : Among q nm os ks rest (node root [] ps kids none)) where
-    pub first-node : {r : ℕ} → first_at b n q ≡ At r → NodeIn (node root [] ps kids none) r
-    first-node h = let i = head_in ks (sym (reads b n root ps kids w a).first ∙ h) in carried i (under a i.among)
+    pub first_node : {r : ℕ} → first_at b n q ≡ At r → NodeIn (node root [] ps kids none) r
+    first_node h = let i = head_in ks (sym (reads b n root ps kids w a).first ∙ h) in carried i (under a i.among)
 
-    pub next-node : {r : ℕ} → next_at b n q ≡ At r → NodeIn (node root [] ps kids none) r
-    next-node h = let i = head_in rest (sym (reads b n root ps kids w a).next ∙ h) in carried i (beside a i.among)
+    pub next_node : {r : ℕ} → next_at b n q ≡ At r → NodeIn (node root [] ps kids none) r
+    next_node h = let i = head_in rest (sym (reads b n root ps kids w a).next ∙ h) in carried i (beside a i.among)
 
-    pub child-node : (step : List ℕ) {r : ℕ} → childAt b n q step ≡ At r → NodeIn (node root [] ps kids none) r
-    child-node step h =
-        let i = head_in (findK step ks) (sym ((reads b n root ps kids w a).child step) ∙ h) in carried i (under a (found step ks i.among))
+    pub child_node : (step : List ℕ) {r : ℕ} → child_at b n q step ≡ At r → NodeIn (node root [] ps kids none) r
+    child_node step h =
+        let i = head_in (find_k step ks) (sym ((reads b n root ps kids w a).child step) ∙ h) in carried i (under a (found step ks i.among))

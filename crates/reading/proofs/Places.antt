@@ -9,11 +9,11 @@ use Rattle.words.specs.Bytes.{bytes}
 use Rattle.words.proofs.BytesLaws.{part_cut}
 use Rattle.fdt.specs.declared.Token.{Token}
 use Rattle.fdt.specs.declared.Token.TheVariants.{Bad, Nop, Begin, EndNode, Prop, Fin}
-use Rattle.fdt.specs.Token.{tokAt}
-use Rattle.fdt.specs.Tree.{Property, Nodes, none, node, Tok, begin, ended, prop, fin, bad, flatP, flatK, taken, lexAt}
-use Rattle.words.proofs.BytesLaws.{bytes-long}
+use Rattle.fdt.specs.Token.{tok_at}
+use Rattle.fdt.specs.Tree.{Property, Nodes, none, node, Tok, begin, ended, prop, fin, bad, flat_p, flat_k, taken, lex_at}
+use Rattle.words.proofs.BytesLaws.{bytes_long}
 use Rattle.fdt.proofs.TokLaws.{reach_of}
-use Rattle.fdt.proofs.LexLaws.{lex-of}
+use Rattle.fdt.proofs.LexLaws.{lex_of}
 use Rattle.reading.specs.Places.{Later, NodeAt, PropertyAt}
 
 -- what the tokens say where they begin, at o or later
@@ -26,8 +26,8 @@ Front b n o (fin ∷ ts) = Unit {0}
 Front b n o (bad ∷ ts) = Unit {0}
 
 module _ (b n : List ℕ) (o : ℕ) where
-  front_of : (p : ℕ) → o ≤ p → (t : Token) → tokAt b n p ≡ t → ((q : ℕ) → tokAt b n p ≡ Nop q → Front b n o (lexAt b n q))
-      → Front b n o (taken b n p t (lexAt b n))
+  front_of : (p : ℕ) → o ≤ p → (t : Token) → tok_at b n p ≡ t → ((q : ℕ) → tok_at b n p ≡ Nop q → Front b n o (lex_at b n q))
+      → Front b n o (taken b n p t (lex_at b n))
   front_of p h Bad e k = tt
   front_of p h (Nop q) e k = k q e
   front_of p h (Begin l q) e k =
@@ -38,7 +38,7 @@ module _ (b n : List ℕ) (o : ℕ) where
       record { to = q; onward = omega arith; tokens = refl }
   front_of p h (Prop l a z q) e k =
       let r = reach_of b n p (Prop l a z q) e in
-      let w : length (bytes b (p + 12) (p + 12 + l)) ≡ l = bytes-long b (p + 12) l r.3 in
+      let w : length (bytes b (p + 12) (p + 12 + l)) ≡ l = bytes_long b (p + 12) l r.3 in
       record {
         len = l;
         start = a;
@@ -56,53 +56,53 @@ module _ (b n : List ℕ) (o : ℕ) where
   front_of p h Fin e k = tt
 
   -- in a block of at most p + f bytes
-  front : (f p : ℕ) → o ≤ p → length b ≤ p + f → Front b n o (lexAt b n p)
+  front : (f p : ℕ) → o ≤ p → length b ≤ p + f → Front b n o (lex_at b n p)
   front zero p h m =
-      rw (lex-of b n p (tokAt b n p) refl)
-      (front_of p h (tokAt b n p) refl (λ q e. let r = reach_of b n p (Nop q) e in let x : ⊥ = omega arith in absurd x))
+      rw (lex_of b n p (tok_at b n p) refl)
+      (front_of p h (tok_at b n p) refl (λ q e. let r = reach_of b n p (Nop q) e in let x : ⊥ = omega arith in absurd x))
   front (suc f) p h m =
-      rw (lex-of b n p (tokAt b n p) refl)
-      (front_of p h (tokAt b n p) refl (λ q e. let r = reach_of b n p (Nop q) e in front f q (omega arith) (omega arith)))
+      rw (lex_of b n p (tok_at b n p) refl)
+      (front_of p h (tok_at b n p) refl (λ q e. let r = reach_of b n p (Nop q) e in front f q (omega arith) (omega arith)))
 
 module _ (b n : List ℕ) (p : ℕ) where
-  front-is : (ts : List Tok) → lexAt b n p ≡ ts → Front b n p ts
-  front-is ts e = subst (Front b n p) e (front b n p (length b) p (omega arith) (omega arith))
+  front_is : (ts : List Tok) → lex_at b n p ≡ ts → Front b n p ts
+  front_is ts e = subst (Front b n p) e (front b n p (length b) p (omega arith) (omega arith))
 
   -- tokens that begin with a node: it begins at its place, from here on, and has its name there
-  pub node_at : {q : ℕ} {nm : List ℕ} {ts : List Tok} → lexAt b n p ≡ begin q nm ∷ ts → NodeAt b n p q nm ts
-  node_at = front-is _
+  pub node_at_lem : {q : ℕ} {nm : List ℕ} {ts : List Tok} → lex_at b n p ≡ begin q nm ∷ ts → NodeAt b n p q nm ts
+  node_at_lem = front_is _
 
   -- tokens that begin with a property: it stands at its place, from here on, and has its name and its value there
-  pub property-at : {x : Property} {ts : List Tok} → lexAt b n p ≡ prop x ∷ ts → PropertyAt b n p x ts
-  property-at = front-is _
+  pub property_at : {x : Property} {ts : List Tok} → lex_at b n p ≡ prop x ∷ ts → PropertyAt b n p x ts
+  property_at = front_is _
 
   -- tokens that begin with a node's end: what comes after it is read from a later place
-  pub end-at : {ts : List Tok} → lexAt b n p ≡ ended ∷ ts → Later b n p ts
-  end-at = front-is _
+  pub end_at_lem : {ts : List Tok} → lex_at b n p ≡ ended ∷ ts → Later b n p ts
+  end_at_lem = front_is _
 
 module _ (b n : List ℕ) where
   -- past a row of properties
-  pub past-properties : (ps : List Property) {ts : List Tok} (p : ℕ) → lexAt b n p ≡ flatP ps ts → Later b n p ts
-  past-properties [] p e = record { to = p; onward = omega arith; tokens = e }
-  past-properties (x ∷ ps) p e =
-      let a = property-at b n p e in
-      let l = past-properties ps a.next (sym a.tokens) in
+  pub past_properties : (ps : List Property) {ts : List Tok} (p : ℕ) → lex_at b n p ≡ flat_p ps ts → Later b n p ts
+  past_properties [] p e = record { to = p; onward = omega arith; tokens = e }
+  past_properties (x ∷ ps) p e =
+      let a = property_at b n p e in
+      let l = past_properties ps a.next (sym a.tokens) in
       record { to = l.to; onward = omega arith; tokens = l.tokens }
 
   -- past a node's name and its properties
-  pub past-name : (ps : List Property) {q : ℕ} {nm : List ℕ} {ts : List Tok} (p : ℕ) → lexAt b n p ≡ begin q nm ∷ flatP ps ts → Later b n (suc q) ts
-  past-name ps p e =
-      let a = node_at b n p e in
-      let l = past-properties ps a.next (sym a.tokens) in
+  pub past_name : (ps : List Property) {q : ℕ} {nm : List ℕ} {ts : List Tok} (p : ℕ) → lex_at b n p ≡ begin q nm ∷ flat_p ps ts → Later b n (suc q) ts
+  past_name ps p e =
+      let a = node_at_lem b n p e in
+      let l = past_properties ps a.next (sym a.tokens) in
       record { to = l.to; onward = omega arith; tokens = l.tokens }
 
   -- past a row of nodes
-  pub past-nodes : (ks : Nodes) {ts : List Tok} (p : ℕ) → lexAt b n p ≡ flatK ks ts → Later b n p ts
-  past-nodes none p e = record { to = p; onward = omega arith; tokens = e }
-  past-nodes (node q nm ps ks rest) p e =
-      let a = node_at b n p e in
-      let l = past-name ps p e in
-      let k = past-nodes ks l.to l.tokens in
-      let d = end-at b n k.to k.tokens in
-      let r = past-nodes rest d.to d.tokens in
+  pub past_nodes : (ks : Nodes) {ts : List Tok} (p : ℕ) → lex_at b n p ≡ flat_k ks ts → Later b n p ts
+  past_nodes none p e = record { to = p; onward = omega arith; tokens = e }
+  past_nodes (node q nm ps ks rest) p e =
+      let a = node_at_lem b n p e in
+      let l = past_name ps p e in
+      let k = past_nodes ks l.to l.tokens in
+      let d = end_at_lem b n k.to k.tokens in
+      let r = past_nodes rest d.to d.tokens in
       record { to = r.to; onward = omega arith; tokens = r.tokens }

@@ -5,75 +5,75 @@ use Prim.Native.Nat.{ℕ, suc, ◌+◌}
 use mathlib.Core.List.{List, [], ◌∷◌}
 use mathlib.Core.Bool.{Bool, true, false, cond}
 use lib.Dec.{eqb}
-use Rattle.fdt.specs.Tree.{Property, Nodes, none, node, Tok, begin, ended, flatP, flatK}
+use Rattle.fdt.specs.Tree.{Property, Nodes, none, node, Tok, begin, ended, flat_p, flat_k}
 use Rattle.nodes.specs.declared.Found.TheVariants.{Nothing}
-use Rattle.nodes.specs.Nav.{firstKid, skipT, lookup, findT, matches}
-use Rattle.nodes.specs.OnTree.{head_of, lookupIn, findK}
-use Rattle.nodes.specs.Order.{begunBefore, order, number_in}
+use Rattle.nodes.specs.Nav.{first_kid, skip_t, lookup, find_t, matches}
+use Rattle.nodes.specs.OnTree.{head_of, lookup_in, find_k}
+use Rattle.nodes.specs.Order.{begun_before, order, number_in}
 
 -- past a node's name: its first child
-pub first-in : (ps : List Property) (ks : Nodes) (r : List Tok) → firstKid r ≡ Nothing → firstKid (flatP ps (flatK ks r)) ≡ head_of ks
-first-in [] none r h = h
-first-in [] (node q nm qs ks rest) r h = refl
-first-in (x ∷ ps) ks r h = first-in ps ks r h
+pub first_in : (ps : List Property) (ks : Nodes) (r : List Tok) → first_kid r ≡ Nothing → first_kid (flat_p ps (flat_k ks r)) ≡ head_of ks
+first_in [] none r h = h
+first_in [] (node q nm qs ks rest) r h = refl
+first_in (x ∷ ps) ks r h = first_in ps ks r h
 
-skip-properties : (ps : List Property) (r : List Tok) (d : ℕ) → skipT (flatP ps r) d ≡ skipT r d
-skip-properties [] r d = refl
-skip-properties (x ∷ ps) r d = skip-properties ps r d
+skip_properties : (ps : List Property) (r : List Tok) (d : ℕ) → skip_t (flat_p ps r) d ≡ skip_t r d
+skip_properties [] r d = refl
+skip_properties (x ∷ ps) r d = skip_properties ps r d
 
-skip-nodes : (ks : Nodes) (r : List Tok) (d : ℕ) → skipT (flatK ks r) (suc d) ≡ skipT r (suc d)
-skip-nodes none r d = refl
-skip-nodes (node q nm ps ks rest) r d = skip-properties ps _ (suc (suc d)) ∙ skip-nodes ks _ (suc d) ∙ skip-nodes rest r d
+skip_nodes : (ks : Nodes) (r : List Tok) (d : ℕ) → skip_t (flat_k ks r) (suc d) ≡ skip_t r (suc d)
+skip_nodes none r d = refl
+skip_nodes (node q nm ps ks rest) r d = skip_properties ps _ (suc (suc d)) ∙ skip_nodes ks _ (suc d) ∙ skip_nodes rest r d
 
 -- past its end
-pub skip-inside : (ps : List Property) (ks : Nodes) (r : List Tok) → skipT (flatP ps (flatK ks (ended ∷ r))) 1 ≡ r
-skip-inside ps ks r = skip-properties ps _ 1 ∙ skip-nodes ks _ 0
+pub skip_inside : (ps : List Property) (ks : Nodes) (r : List Tok) → skip_t (flat_p ps (flat_k ks (ended ∷ r))) 1 ≡ r
+skip_inside ps ks r = skip_properties ps _ 1 ∙ skip_nodes ks _ 0
 
 -- its property of a name
-pub lookup-in : (name : List ℕ) (ps : List Property) (ks : Nodes) (r : List Tok) → lookup name (flatP ps (flatK ks (ended ∷ r))) ≡ lookupIn name ps
-unfolding lookup lookupIn
-lookup-in name [] none r = refl
-lookup-in name [] (node q nm qs ks rest) r = refl
-lookup-in name (x ∷ ps) ks r = rw (lookup-in name ps ks r)
+pub lookup_in_lem : (name : List ℕ) (ps : List Property) (ks : Nodes) (r : List Tok) → lookup name (flat_p ps (flat_k ks (ended ∷ r))) ≡ lookup_in name ps
+unfolding lookup lookup_in
+lookup_in_lem name [] none r = refl
+lookup_in_lem name [] (node q nm qs ks rest) r = refl
+lookup_in_lem name (x ∷ ps) ks r = rw (lookup_in_lem name ps ks r)
 
 module _ (step : List ℕ) where
-  find-properties : (ps : List Property) (r : List Tok) (d : ℕ) → findT step (flatP ps r) d ≡ findT step r d
-  unfolding findT
-  find-properties [] r d = refl
-  find-properties (x ∷ ps) r d = find-properties ps r d
+  find_properties : (ps : List Property) (r : List Tok) (d : ℕ) → find_t step (flat_p ps r) d ≡ find_t step r d
+  unfolding find_t
+  find_properties [] r d = refl
+  find_properties (x ∷ ps) r d = find_properties ps r d
 
-  find-nodes : (ks : Nodes) (r : List Tok) (d : ℕ) → findT step (flatK ks r) (suc d) ≡ findT step r (suc d)
-  unfolding findT
-  find-nodes none r d = refl
-  find-nodes (node q nm ps ks rest) r d = find-properties ps _ (suc (suc d)) ∙ find-nodes ks _ (suc d) ∙ find-nodes rest r d
+  find_nodes : (ks : Nodes) (r : List Tok) (d : ℕ) → find_t step (flat_k ks r) (suc d) ≡ find_t step r (suc d)
+  unfolding find_t
+  find_nodes none r d = refl
+  find_nodes (node q nm ps ks rest) r d = find_properties ps _ (suc (suc d)) ∙ find_nodes ks _ (suc d) ∙ find_nodes rest r d
 
-  head-cond : (m : Bool) (q : ℕ) (nm : List ℕ) (ps : List Property) (ks rest other : Nodes) (ts us : List Tok) → firstKid us ≡ head_of other
-      → firstKid (cond m (begin q nm ∷ ts) us) ≡ head_of (cond m (node q nm ps ks rest) other)
-  head-cond true q nm ps ks rest other ts us h = refl
-  head-cond false q nm ps ks rest other ts us h = h
+  head_cond : (m : Bool) (q : ℕ) (nm : List ℕ) (ps : List Property) (ks rest other : Nodes) (ts us : List Tok) → first_kid us ≡ head_of other
+      → first_kid (cond m (begin q nm ∷ ts) us) ≡ head_of (cond m (node q nm ps ks rest) other)
+  head_cond true q nm ps ks rest other ts us h = refl
+  head_cond false q nm ps ks rest other ts us h = h
 
-  find-among : (ks : Nodes) (r : List Tok) → firstKid (findT step (flatK ks (ended ∷ r)) 0) ≡ head_of (findK step ks)
-  unfolding findT findK
-  find-among none r = refl
-  find-among (node q nm ps ks rest) r =
-      head-cond (matches nm step) q nm ps ks rest (findK step rest) _ _
-      (ap firstKid (find-properties ps _ 1 ∙ find-nodes ks _ 0) ∙ find-among rest r)
+  find_among : (ks : Nodes) (r : List Tok) → first_kid (find_t step (flat_k ks (ended ∷ r)) 0) ≡ head_of (find_k step ks)
+  unfolding find_t find_k
+  find_among none r = refl
+  find_among (node q nm ps ks rest) r =
+      head_cond (matches nm step) q nm ps ks rest (find_k step rest) _ _
+      (ap first_kid (find_properties ps _ 1 ∙ find_nodes ks _ 0) ∙ find_among rest r)
 
   -- its child of a step
-  pub find-in : (ps : List Property) (ks : Nodes) (r : List Tok) → firstKid (findT step (flatP ps (flatK ks (ended ∷ r))) 0) ≡ head_of (findK step ks)
-  find-in ps ks r = ap firstKid (find-properties ps _ 0) ∙ find-among ks r
+  pub find_in : (ps : List Property) (ks : Nodes) (r : List Tok) → first_kid (find_t step (flat_p ps (flat_k ks (ended ∷ r))) 0) ≡ head_of (find_k step ks)
+  find_in ps ks r = ap first_kid (find_properties ps _ 0) ∙ find_among ks r
 
 module _ (t : ℕ) where
-  begun-properties : (ps : List Property) (r : List Tok) (k : ℕ) → begunBefore (flatP ps r) t k ≡ begunBefore r t k
-  unfolding begunBefore
-  begun-properties [] r k = refl
-  begun-properties (x ∷ ps) r k = begun-properties ps r k
+  begun_properties : (ps : List Property) (r : List Tok) (k : ℕ) → begun_before (flat_p ps r) t k ≡ begun_before r t k
+  unfolding begun_before
+  begun_properties [] r k = refl
+  begun_properties (x ∷ ps) r k = begun_properties ps r k
 
   -- the number in document order, where it is so past these nodes
-  pub begun-in : (ks : Nodes) (r : List Tok) (l : List ℕ) → ((k : ℕ) → begunBefore r t k ≡ number_in l t k)
-      → (k : ℕ) → begunBefore (flatK ks r) t k ≡ number_in (order ks l) t k
-  unfolding begunBefore order number_in
-  begun-in none r l h k = h k
-  begun-in (node q nm ps ks rest) r l h k =
+  pub begun_in : (ks : Nodes) (r : List Tok) (l : List ℕ) → ((k : ℕ) → begun_before r t k ≡ number_in l t k)
+      → (k : ℕ) → begun_before (flat_k ks r) t k ≡ number_in (order ks l) t k
+  unfolding begun_before order number_in
+  begun_in none r l h k = h k
+  begun_in (node q nm ps ks rest) r l h k =
       ap (λ (m : ℕ). cond (eqb q t) k m)
-      (begun-properties ps _ (k + 1) ∙ begun-in ks (ended ∷ flatK rest r) (order rest l) (begun-in rest r l h) (k + 1))
+      (begun_properties ps _ (k + 1) ∙ begun_in ks (ended ∷ flat_k rest r) (order rest l) (begun_in rest r l h) (k + 1))

@@ -13,9 +13,9 @@ pub data OneOf (q : ℕ) : List ℕ → Type 0 where
   later : {p : ℕ} {l : List ℕ} → OneOf q l → OneOf q (p ∷ l)
 
 -- how many of these places are before t
-unfoldable pub countBefore : ℕ → List ℕ → ℕ
-countBefore t [] = 0
-countBefore t (q ∷ l) = cond (ltb q t) (suc (countBefore t l)) (countBefore t l)
+unfoldable pub count_before : ℕ → List ℕ → ℕ
+count_before t [] = 0
+count_before t (q ∷ l) = cond (ltb q t) (suc (count_before t l)) (count_before t l)
 
 -- two nodes have the same name, properties, children and siblings after them
 pub record SameNode (nm om : List ℕ) (ps os : List Property) (ks ls rs us : Nodes) : Type 0 where

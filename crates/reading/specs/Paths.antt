@@ -3,15 +3,15 @@ use Rattle.std.specs.Prelude.{ℕ, cond, List, length, get_or, eqb}
 use Rattle.fdt.specs.Tree.{Property, Nodes}
 use Rattle.nodes.specs.declared.Found.{Found}
 use Rattle.nodes.specs.declared.Found.TheVariants.{Nothing}
-use Rattle.nodes.specs.Path.{stepsFrom}
-use Rattle.nodes.specs.OnTree.{Among, head_of, goK}
+use Rattle.nodes.specs.Path.{steps_from}
+use Rattle.nodes.specs.OnTree.{Among, head_of, go_k}
 
 -- where the path leads in this tree, from its root on
-unfoldable pub pathIn : Nodes → List ℕ → Found
-pathIn t path =
+unfoldable pub path_in : Nodes → List ℕ → Found
+path_in t path =
     cond (eqb (length path) 0) Nothing
     (cond (eqb (get_or path 0 0) 47)
-    (cond (eqb (length path) 1) (head_of t) (goK t (stepsFrom (length path) path 1)))
+    (cond (eqb (length path) 1) (head_of t) (go_k t (steps_from (length path) path 1)))
     Nothing)
 
 -- one of these nodes, or of those below them, stands at q

@@ -1,27 +1,27 @@
 -- What it is for reading to agree with the tree.
 use Rattle.std.specs.Prelude.{◌≡◌, ℕ, List, [], ◌∷◌}
 use Rattle.words.specs.Bytes.{part_of}
-use Rattle.fdt.specs.Tree.{Property, Nodes, none, node, fin, flatK, lexAt}
+use Rattle.fdt.specs.Tree.{Property, Nodes, none, node, fin, flat_k, lex_at}
 use Rattle.nodes.specs.declared.Value.{Value}
 use Rattle.nodes.specs.declared.Value.TheVariants.{Here, Missing}
-use Rattle.nodes.specs.Nav.{name_at, first_at, next_at, propAt, childAt}
-use Rattle.nodes.specs.Order.{placeAt, order, number_in}
-use Rattle.nodes.specs.OnTree.{head_of, lookupIn, findK}
+use Rattle.nodes.specs.Nav.{name_at, first_at, next_at, prop_at, child_at}
+use Rattle.nodes.specs.Order.{place_at, order, number_in}
+use Rattle.nodes.specs.OnTree.{head_of, lookup_in, find_k}
 
 -- the blocks b and n are written for this tree: a root with the empty name
 abbrev pub WrittenFor : List ℕ → List ℕ → ℕ → List Property → Nodes → Type 0
-WrittenFor b n root ps kids = lexAt b n 0 ≡ flatK (node root [] ps kids none) (fin ∷ [])
+WrittenFor b n root ps kids = lex_at b n 0 ≡ flat_k (node root [] ps kids none) (fin ∷ [])
 
 -- the value that a lookup points to: the first property's of this name
-abbrev pub valueIn : List ℕ → Value → List ℕ
-valueIn b (Here at len) = part_of b at len
-valueIn b Missing = []
+abbrev pub value_in : List ℕ → Value → List ℕ
+value_in b (Here at len) = part_of b at len
+value_in b Missing = []
 
 -- reading at the place q of a node with this name, these properties, these children and these siblings after it
 pub record ReadsAt (b n : List ℕ) (root : Nodes) (q : ℕ) (name : List ℕ) (ps : List Property) (kids rest : Nodes) : Type 0 where
   pub named : name_at b n q ≡ name
   pub first : first_at b n q ≡ head_of kids
   pub next : next_at b n q ≡ head_of rest
-  pub property : (p : List ℕ) → propAt b n q p ≡ lookupIn p ps
-  pub child : (step : List ℕ) → childAt b n q step ≡ head_of (findK step kids)
-  pub place : placeAt b n q ≡ number_in (order root []) q 0
+  pub property : (p : List ℕ) → prop_at b n q p ≡ lookup_in p ps
+  pub child : (step : List ℕ) → child_at b n q step ≡ head_of (find_k step kids)
+  pub place : place_at b n q ≡ number_in (order root []) q 0

@@ -5,10 +5,10 @@ use Rattle.words.specs.Bytes.{part_of}
 use Rattle.fdt.specs.Tree.{Property}
 use Rattle.cells.specs.declared.CellCount.{CellCount}
 use Rattle.cells.specs.declared.CellCount.TheVariants.{Absent}
-use Rattle.cells.specs.Count.{statedBy}
+use Rattle.cells.specs.Count.{stated_by}
 use Rattle.nodes.specs.declared.Value.{Value}
 use Rattle.nodes.specs.declared.Value.TheVariants.{Here, Missing}
-use Rattle.nodes.specs.Nav.{sameBytes}
+use Rattle.nodes.specs.Nav.{same_bytes}
 
 -- x is the first of these properties that has this name
 pub data FirstOf (name : List ℕ) : Property → List Property → Type 0 where
@@ -17,7 +17,7 @@ pub data FirstOf (name : List ℕ) : Property → List Property → Type 0 where
 
 -- none of these properties has this name
 pub data NoneOf (name : List ℕ) : List Property → Type 0 where
-  no-property : NoneOf name []
+  no_property : NoneOf name []
   other : {x : Property} {ps : List Property} → (x.name ≡ name → ⊥) → NoneOf name ps → NoneOf name (x ∷ ps)
 
 -- each of these properties has its value in the block, past the token, the length and the name's place
@@ -36,7 +36,7 @@ pub record ValueOf (b : List ℕ) (name : List ℕ) (ps : List Property) (at len
 -- the value of the first property of this name, where there is one
 unfoldable pub value_of : List ℕ → List Property → Option (List ℕ)
 value_of name [] = nothing
-value_of name (x ∷ ps) = cond (sameBytes x.name name) (some x.value) (value_of name ps)
+value_of name (x ∷ ps) = cond (same_bytes x.name name) (some x.value) (value_of name ps)
 
 -- the bytes that a lookup points to
 abbrev pub held : List ℕ → Value → Option (List ℕ)
@@ -44,11 +44,11 @@ held b (Here at len) = some (part_of b at len)
 held b Missing = nothing
 
 -- a value's bytes, or none where there is no value
-abbrev pub orNone : Option (List ℕ) → List ℕ
-orNone nothing = []
-orNone (some v) = v
+abbrev pub or_none : Option (List ℕ) → List ℕ
+or_none nothing = []
+or_none (some v) = v
 
 -- a node's count of cells, from the value of the property that states it
 abbrev pub count_of : Option (List ℕ) → CellCount
 count_of nothing = Absent
-count_of (some v) = statedBy v
+count_of (some v) = stated_by v

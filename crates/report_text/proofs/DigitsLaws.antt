@@ -11,8 +11,8 @@ use lib.Dec.{ltb, leb}
 use lib.ListN.{length, length-append}
 use borrow.Author.Tests.{lt-ltb, le-ltb, leb-true, leb-false}
 use Rattle.io.specs.Digits.{hex_digit_ascii, last_digits, IsDigitCount}
-use Rattle.words.proofs.BytesLaws.{cond-elim}
-use Rattle.report_text.specs.Text.{width_by, decimalText, hexText}
+use Rattle.words.proofs.BytesLaws.{cond_elim}
+use Rattle.report_text.specs.Text.{width_by, decimal_text, hex_text}
 
 pub length_digits : (b k n : ℕ) → length (last_digits b k n) ≡ k
 length_digits b zero n = refl
@@ -24,34 +24,34 @@ width_one : (f n : ℕ) → n < 10 → width_by (suc f) n ≡ 1
 unfolding width_by
 width_one f n h = rw (lt-ltb n 10 h)
 
-width-more : (f n : ℕ) → 10 ≤ n → width_by (suc f) n ≡ suc (width_by f (n / 10))
+width_more : (f n : ℕ) → 10 ≤ n → width_by (suc f) n ≡ suc (width_by f (n / 10))
 unfolding width_by
-width-more f n h = rw (le-ltb n 10 h)
+width_more f n h = rw (le-ltb n 10 h)
 
-width-le : (f n : ℕ) → width_by f n ≤ f
+width_le : (f n : ℕ) → width_by f n ≤ f
 unfolding width_by
-width-le zero n = omega arith
-width-le (suc f) n =
-    let h = width-le f (n / 10) in cond-elim (λ (k : ℕ). k ≤ suc f) (ltb n 10) 1 (suc (width_by f (n / 10))) (λ e. omega arith) (λ e. omega arith)
+width_le zero n = omega arith
+width_le (suc f) n =
+    let h = width_le f (n / 10) in cond_elim (λ (k : ℕ). k ≤ suc f) (ltb n 10) 1 (suc (width_by f (n / 10))) (λ e. omega arith) (λ e. omega arith)
 
 -- the fewest digits that hold a number are as many as it has
-fewest-suc : (f k n : ℕ) → k < f → n < 10 ^ suc k → (0 < k → 10 ^ k ≤ n) → suc k ≡ width_by f n
-fewest-suc zero k n lt below least = absurd (omega arith)
-fewest-suc (suc f) zero n lt below least = sym (width_one f n below)
-fewest-suc (suc f) (suc k) n lt below least =
+fewest_suc : (f k n : ℕ) → k < f → n < 10 ^ suc k → (0 < k → 10 ^ k ≤ n) → suc k ≡ width_by f n
+fewest_suc zero k n lt below least = absurd (omega arith)
+fewest_suc (suc f) zero n lt below least = sym (width_one f n below)
+fewest_suc (suc f) (suc k) n lt below least =
     let here : 10 ^ suc k ≤ n = least (omega arith) in
     let tenth : n / 10 < 10 ^ suc k = (div-lt_iff_lt-mul {k = 10} (omega arith)).1 (subst (λ (m : ℕ). n < m) (pow-suc 10 (suc k)) below) in
     let there : 10 ^ k ≤ n / 10 = (le-div_iff_mul-le {k = 10} (omega arith)).1 (subst (λ (m : ℕ). m ≤ n) (pow-suc 10 k) here) in
     let ten : 10 ^ 1 ≤ 10 ^ suc k = pow-le-pow_right {n = 10} (omega arith) {i = 1} {j = suc k} (omega arith) in
-    ap suc (fewest-suc f k (n / 10) (omega arith) tenth (λ h. there)) ∙ sym (width-more f n (omega arith))
+    ap suc (fewest_suc f k (n / 10) (omega arith) tenth (λ h. there)) ∙ sym (width_more f n (omega arith))
 
-pub fewest-width : (f n r : ℕ) → r ≤ f → IsDigitCount 10 1 n r → r ≡ width_by f n
-fewest-width f n zero le h = absurd (omega arith)
-fewest-width f n (suc k) le h = fewest-suc f k n le h.1 (λ p. subst (λ (m : ℕ). 10 ^ m ≤ n) (omega arith) (h.2 (omega arith)))
+pub fewest_width : (f n r : ℕ) → r ≤ f → IsDigitCount 10 1 n r → r ≡ width_by f n
+fewest_width f n zero le h = absurd (omega arith)
+fewest_width f n (suc k) le h = fewest_suc f k n le h.1 (λ p. subst (λ (m : ℕ). 10 ^ m ≤ n) (omega arith) (h.2 (omega arith)))
 
 -- they are no more than any digits that hold it
-fewest-le : (b f least n r : ℕ) → 0 < b → least ≤ f → n < b ^ f → IsDigitCount b least n r → r ≤ f
-fewest-le b f least n r pos le below few = go (leb r f) refl
+fewest_le : (b f least n r : ℕ) → 0 < b → least ≤ f → n < b ^ f → IsDigitCount b least n r → r ≤ f
+fewest_le b f least n r pos le below few = go (leb r f) refl
   where
     go : (t : Bool) → leb r f ≡ t → r ≤ f
     go true e = leb-true r f e
@@ -62,22 +62,22 @@ fewest-le b f least n r pos le below few = go (leb r f) refl
         absurd (omega arith)
 
 -- ── The two texts of a number ──
-pub decimal-is : {n r : ℕ} {l : List ℕ} → n < 2 ^ 64 → IsDigitCount 10 1 n r → l ≡ last_digits 10 r n → l ≡ decimalText n
-unfolding decimalText
-decimal-is {n} {r} {l} below few e =
-    e ∙ ap (λ (k : ℕ). last_digits 10 k n) (fewest-width 20 n r (fewest-le 10 20 1 n r (omega arith) (omega arith) (omega arith) few) few)
+pub decimal_is : {n r : ℕ} {l : List ℕ} → n < 2 ^ 64 → IsDigitCount 10 1 n r → l ≡ last_digits 10 r n → l ≡ decimal_text n
+unfolding decimal_text
+decimal_is {n} {r} {l} below few e =
+    e ∙ ap (λ (k : ℕ). last_digits 10 k n) (fewest_width 20 n r (fewest_le 10 20 1 n r (omega arith) (omega arith) (omega arith) few) few)
 
-pub decimal-length : (n : ℕ) → length (decimalText n) ≤ 20
-unfolding decimalText
-decimal-length n = subst (λ (k : ℕ). k ≤ 20) (sym (length_digits 10 (width_by 20 n) n)) (width-le 20 n)
+pub decimal_length : (n : ℕ) → length (decimal_text n) ≤ 20
+unfolding decimal_text
+decimal_length n = subst (λ (k : ℕ). k ≤ 20) (sym (length_digits 10 (width_by 20 n) n)) (width_le 20 n)
 
 -- a width of 16 is the whole of a 64-bit number
-pub hex-is : {n r : ℕ} {l : List ℕ} → n < 2 ^ 64 → IsDigitCount 16 16 n r → l ≡ last_digits 16 r n → l ≡ hexText n
-unfolding hexText
-hex-is {n} {r} {l} below few e =
-    let most : r ≤ 16 = fewest-le 16 16 16 n r (omega arith) (omega arith) below few in
+pub hex_is : {n r : ℕ} {l : List ℕ} → n < 2 ^ 64 → IsDigitCount 16 16 n r → l ≡ last_digits 16 r n → l ≡ hex_text n
+unfolding hex_text
+hex_is {n} {r} {l} below few e =
+    let most : r ≤ 16 = fewest_le 16 16 16 n r (omega arith) (omega arith) below few in
     let all : r ≡ 16 = omega arith in e ∙ ap (λ (k : ℕ). last_digits 16 k n) all
 
-pub hex-length : (n : ℕ) → length (hexText n) ≡ 16
-unfolding hexText
-hex-length n = length_digits 16 16 n
+pub hex_length : (n : ℕ) → length (hex_text n) ≡ 16
+unfolding hex_text
+hex_length n = length_digits 16 16 n

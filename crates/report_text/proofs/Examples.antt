@@ -5,10 +5,10 @@ use Prim.Native.Nat.{ℕ}
 use mathlib.Core.List.{List, [], ◌∷◌, ◌++◌}
 use lib.Ieee.{to_bits}
 use Rattle.sheet.specs.Share.{quotient, counted}
-use Rattle.sheet.specs.Sheet.{sheetOf}
+use Rattle.sheet.specs.Sheet.{sheet_of}
 use Rattle.startup.specs.declared.Refusal.TheVariants.{BadOrder}
 use Rattle.startup.specs.declared.Report.TheVariants.{Done, Refused}
-use Rattle.report_text.specs.Text.{width_by, decimalText, hexText, countLine, areaLine, areaLines, shareText, pagesLine, refusedLine, text_of}
+use Rattle.report_text.specs.Text.{width_by, decimal_text, hex_text, count_line, area_line, area_lines, share_text, pages_line, refused_line, text_of}
 
 -- `areas 3`
 abbrev count : List ℕ
@@ -39,25 +39,25 @@ pages =
     112 ∷ 97 ∷ 103 ∷ 101 ∷ 115 ∷ 32 ∷ 50 ∷ 48 ∷ 52 ∷ 56 ∷ 32 ∷ 49 ∷ 53 ∷ 51 ∷ 52 ∷ 32 ∷ 51 ∷
     102 ∷ 101 ∷ 55 ∷ 102 ∷ 56 ∷ 48 ∷ 48 ∷ 48 ∷ 48 ∷ 48 ∷ 48 ∷ 48 ∷ 48 ∷ 48 ∷ 48 ∷ 10 ∷ []
 
-pub case-s :
-    text_of (Done 3 (sheetOf 2048 1534)) (0 ∷ 0x10_0000 ∷ 0x30_0000 ∷ 0x10_0000 ∷ 0x40_2000 ∷ 0x3f_e000 ∷ [])
+pub case_s :
+    text_of (Done 3 (sheet_of 2048 1534)) (0 ∷ 0x10_0000 ∷ 0x30_0000 ∷ 0x10_0000 ∷ 0x40_2000 ∷ 0x3f_e000 ∷ [])
     ≡ count ++ (first ++ (second ++ (third ++ pages)))
-unfolding width_by decimalText hexText countLine areaLine areaLines shareText pagesLine text_of quotient counted to_bits
-case-s = refl
+unfolding width_by decimal_text hex_text count_line area_line area_lines share_text pages_line text_of quotient counted to_bits
+case_s = refl
 
 -- `refused 9`
-pub refused-order : (l : List ℕ) → text_of (Refused BadOrder) l ≡ 114 ∷ 101 ∷ 102 ∷ 117 ∷ 115 ∷ 101 ∷ 100 ∷ 32 ∷ 57 ∷ 10 ∷ []
-unfolding width_by decimalText refusedLine text_of
-refused-order l = refl
+pub refused_order : (l : List ℕ) → text_of (Refused BadOrder) l ≡ 114 ∷ 101 ∷ 102 ∷ 117 ∷ 115 ∷ 101 ∷ 100 ∷ 32 ∷ 57 ∷ 10 ∷ []
+unfolding width_by decimal_text refused_line text_of
+refused_order l = refl
 
 -- `pages 0 0 none`
-pub none_free : pagesLine (sheetOf 0 0) ≡ 112 ∷ 97 ∷ 103 ∷ 101 ∷ 115 ∷ 32 ∷ 48 ∷ 32 ∷ 48 ∷ 32 ∷ 110 ∷ 111 ∷ 110 ∷ 101 ∷ 10 ∷ []
-unfolding width_by decimalText shareText pagesLine
+pub none_free : pages_line (sheet_of 0 0) ≡ 112 ∷ 97 ∷ 103 ∷ 101 ∷ 115 ∷ 32 ∷ 48 ∷ 32 ∷ 48 ∷ 32 ∷ 110 ∷ 111 ∷ 110 ∷ 101 ∷ 10 ∷ []
+unfolding width_by decimal_text share_text pages_line
 none_free = refl
 
 -- `18446744073709551615`
 pub longest :
-    decimalText 0xffff_ffff_ffff_ffff
+    decimal_text 0xffff_ffff_ffff_ffff
     ≡ 49 ∷ 56 ∷ 52 ∷ 52 ∷ 54 ∷ 55 ∷ 52 ∷ 52 ∷ 48 ∷ 55 ∷ 51 ∷ 55 ∷ 48 ∷ 57 ∷ 53 ∷ 53 ∷ 49 ∷ 54 ∷ 49 ∷ 53 ∷ []
-unfolding width_by decimalText
+unfolding width_by decimal_text
 longest = refl

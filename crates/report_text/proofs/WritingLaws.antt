@@ -65,8 +65,8 @@ module _ {a : List ℕ} {at : ℕ} {x b : List ℕ} {q : ℕ} (first : Writes a 
     place : at + length x + length y ≡ at + length (x ++ y)
     place = add_assoc at (length x) (length y) ∙ ap (λ (k : ℕ). at + k) (sym (length-append x y))
 
-    pub writes-append : at ≤ length a → Writes a at (x ++ y) c r
-    writes-append h =
+    pub writes_append : at ≤ length a → Writes a at (x ++ y) c r
+    writes_append h =
         record {
           put =
               second.put
@@ -81,8 +81,8 @@ module _ {a : List ℕ} {at : ℕ} {x b : List ℕ} {q : ℕ} (first : Writes a 
 -- ── A text at the start ──
 module _ {a x b : List ℕ} {q : ℕ} (w : Writes a 0 x b q) where
   -- what is answered is how much of the buffer is text, and the buffer has it
-  pub text-length : q ≡ length (take q b)
-  text-length = omega (arith, w.end, ap length (front w (omega arith)), length-append (take 0 a) x, length-take 0 a)
+  pub text_length : q ≡ length (take q b)
+  text_length = omega (arith, w.end, ap length (front w (omega arith)), length-append (take 0 a) x, length-take 0 a)
 
-  pub text-inside : q ≤ length b
-  text-inside = omega (arith, text-length, length-take q b)
+  pub text_inside : q ≤ length b
+  text_inside = omega (arith, text_length, length-take q b)

@@ -1,10 +1,10 @@
 // The report's text: the count of the areas, each base and size, the page sheet; or the number of the refusal. And the text of late claims
 // behind an order file: the areas when they are made, and how many were, or which was refused.
 ghost use Rattle.std.specs.Prelude.{◌≡◌, ◌+◌, ◌*◌, ◌≤◌, min, length};
-ghost use Rattle.report_text.specs.Text.{decimalText, hexText, shareText, areaLine, areaLines, countLine, pagesLine, refusedLine, text_of, reportText};
-ghost use Rattle.report_text.specs.LateText.{labelled, lastLine, lines_of, lateText, lateSlots};
+ghost use Rattle.report_text.specs.Text.{decimal_text, hex_text, share_text, area_line, area_lines, count_line, pages_line, refused_line, text_of, report_text};
+ghost use Rattle.report_text.specs.LateText.{labelled, last_line, lines_of, late_text, late_slots};
 ghost use Rattle.report_text.specs.Writing.{Writes};
-ghost use Rattle.startup.specs.Report.{slotsAfter};
+ghost use Rattle.startup.specs.Report.{slots_after};
 
 use late_claim::LateAnswer;
 use sheet::{PageSheet, ShareBits};
@@ -26,7 +26,7 @@ fn put(out: &mut [u8], at: usize, bytes: &[u8]) -> usize
 // A number's decimal digits.
 fn put_decimal(out: &mut [u8], at: usize, n: u64) -> usize
     requires { at + 20 ≤ length out.old }
-    ensures { Writes out.old at (decimalText n) out.new result }
+    ensures { Writes out.old at (decimal_text n) out.new result }
 {
     let mut digits = [0u8; 20];
     let k = io::decimal(n, &mut digits);
@@ -36,7 +36,7 @@ fn put_decimal(out: &mut [u8], at: usize, n: u64) -> usize
 // A number's 16 hex digits.
 fn put_hex(out: &mut [u8], at: usize, n: u64) -> usize
     requires { at + 16 ≤ length out.old }
-    ensures { Writes out.old at (hexText n) out.new result }
+    ensures { Writes out.old at (hex_text n) out.new result }
 {
     let mut digits = [0u8; 16];
     let k = io::hex(n, 16, &mut digits);
@@ -46,7 +46,7 @@ fn put_hex(out: &mut [u8], at: usize, n: u64) -> usize
 // The share's bits, or `none`.
 fn put_share(out: &mut [u8], at: usize, sheet: PageSheet) -> usize
     requires { at + 16 ≤ length out.old }
-    ensures { Writes out.old at (shareText sheet) out.new result }
+    ensures { Writes out.old at (share_text sheet) out.new result }
 {
     match sheet::share_bits(sheet.free, sheet.usable) {
         ShareBits::NoBits => put(out, at, b"none"),
@@ -57,7 +57,7 @@ fn put_share(out: &mut [u8], at: usize, sheet: PageSheet) -> usize
 // One area: its base and its size.
 fn put_area(out: &mut [u8], at: usize, base: u64, size: u64) -> usize
     requires { at + 34 ≤ length out.old }
-    ensures { Writes out.old at (areaLine base size) out.new result }
+    ensures { Writes out.old at (area_line base size) out.new result }
 {
     let a = put_hex(out, at, base);
     let b = put(out, a, b" ");
@@ -68,7 +68,7 @@ fn put_area(out: &mut [u8], at: usize, base: u64, size: u64) -> usize
 // The first n areas of the slots, a line each.
 fn put_areas(out: &mut [u8], at: usize, slots: &[u64], n: usize) -> usize
     requires { (n + n ≤ length slots.now) × (at + n * 34 ≤ length out.old) }
-    ensures { Writes out.old at (areaLines slots.now n 0) out.new result }
+    ensures { Writes out.old at (area_lines slots.now n 0) out.new result }
 {
     let mut p = at;
     let mut i: usize = 0; // the first area
@@ -81,7 +81,7 @@ fn put_areas(out: &mut [u8], at: usize, slots: &[u64], n: usize) -> usize
 
 fn put_count(out: &mut [u8], at: usize, n: usize) -> usize
     requires { at + 27 ≤ length out.old }
-    ensures { Writes out.old at (countLine n) out.new result }
+    ensures { Writes out.old at (count_line n) out.new result }
 {
     let a = put(out, at, b"areas ");
     let b = put_decimal(out, a, n as u64);
@@ -90,7 +90,7 @@ fn put_count(out: &mut [u8], at: usize, n: usize) -> usize
 
 fn put_pages(out: &mut [u8], at: usize, sheet: PageSheet) -> usize
     requires { at + 65 ≤ length out.old }
-    ensures { Writes out.old at (pagesLine sheet) out.new result }
+    ensures { Writes out.old at (pages_line sheet) out.new result }
 {
     let a = put(out, at, b"pages ");
     let b = put_decimal(out, a, sheet.free);
@@ -103,7 +103,7 @@ fn put_pages(out: &mut [u8], at: usize, sheet: PageSheet) -> usize
 
 fn put_refusal(out: &mut [u8], number: u8) -> usize
     requires { 29 ≤ length out.old }
-    ensures { Writes out.old 0 (refusedLine number) out.new result }
+    ensures { Writes out.old 0 (refused_line number) out.new result }
 {
     let a = put(out, 0, b"refused ");
     let b = put_decimal(out, a, number as u64);
@@ -137,8 +137,8 @@ pub fn text(report: Report, slots: &[u64; 1024], out: &mut [u8; 17500]) -> usize
 
 // Builds the area table of an order file in the lent slots, and puts the report's text at the start of the buffer.
 pub fn report(file: &[u8], slots: &mut [u64; 1024], out: &mut [u8; 17500]) -> usize
-    ensures writes { Writes out.old 0 (reportText 4096 file.now slots.old) out.new result }
-    ensures slots_after { slots.new ≡ slotsAfter 4096 file.now slots.old }
+    ensures writes { Writes out.old 0 (report_text 4096 file.now slots.old) out.new result }
+    ensures slots_after { slots.new ≡ slots_after 4096 file.now slots.old }
 {
     let answer = startup::init(file, slots);
     text(answer, slots, out)
@@ -156,7 +156,7 @@ fn put_labelled(out: &mut [u8], at: usize, word: &[u8], n: u64) -> usize
 // How many claims were made; or the number of the refusal and the index of its claim.
 fn put_last(out: &mut [u8], at: usize, answer: LateAnswer, index: usize) -> usize
     requires { at + 53 ≤ length out.old }
-    ensures { Writes out.old at (lastLine answer index) out.new result }
+    ensures { Writes out.old at (last_line answer index) out.new result }
 {
     let number = answer.number();
     if number == 0 {
@@ -187,8 +187,8 @@ fn put_run(
 // Builds the area table of the order file at the start of the input in the lent slots, makes the late claims behind it one after the other
 // up to the first that is refused, and puts the text at the start of the buffer.
 pub fn late(input: &[u8], slots: &mut [u64; 1024], out: &mut [u8; 17500]) -> usize
-    ensures writes { Writes out.old 0 (lateText 4096 input.now slots.old) out.new result }
-    ensures slots_after { slots.new ≡ lateSlots 4096 input.now slots.old }
+    ensures writes { Writes out.old 0 (late_text 4096 input.now slots.old) out.new result }
+    ensures slots_after { slots.new ≡ late_slots 4096 input.now slots.old }
 {
     let end = order::file_end(input);
     let start = startup::init_map(&input[..end], slots);

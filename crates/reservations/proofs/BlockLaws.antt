@@ -8,7 +8,7 @@ use lib.Dec.{leb}
 use borrow.Author.Tests.{le-leb, lt-leb, eq-eqb, ne_eqb}
 use Rattle.words.specs.Bytes.{part_of}
 use Rattle.fdt.specs.declared.Blocks.{Blocks}
-use Rattle.reservations.specs.Reservations.{blockIn}
+use Rattle.reservations.specs.Reservations.{block_in}
 
 -- no bytes
 part_none : (s : List ℕ) → part_of s 0 0 ≡ []
@@ -20,21 +20,21 @@ part_none s = go (leb (0 + 0) (length s))
     go false = refl
 
 module _ (s : List ℕ) (b : Blocks) where
-  pub skipped-low : b.reservations < 40 → part_of s 0 0 ≡ blockIn s b
-  unfolding blockIn
-  skipped-low h = rw (part_none s, lt-leb 40 b.reservations h)
+  pub skipped_low : b.reservations < 40 → part_of s 0 0 ≡ block_in s b
+  unfolding block_in
+  skipped_low h = rw (part_none s, lt-leb 40 b.reservations h)
 
   module _ (low : 40 ≤ b.reservations) where
-    pub skipped-off : (b.reservations % 8 ≡ 0 → ⊥) → part_of s 0 0 ≡ blockIn s b
-    unfolding blockIn
-    skipped-off h = rw (part_none s, le-leb 40 b.reservations low, ne_eqb (b.reservations % 8) 0 h)
+    pub skipped_off : (b.reservations % 8 ≡ 0 → ⊥) → part_of s 0 0 ≡ block_in s b
+    unfolding block_in
+    skipped_off h = rw (part_none s, le-leb 40 b.reservations low, ne_eqb (b.reservations % 8) 0 h)
 
     module _ (even : b.reservations % 8 ≡ 0) where
-      pub skipped-high : b.structure.at < b.reservations → part_of s 0 0 ≡ blockIn s b
-      unfolding blockIn
-      skipped-high h =
+      pub skipped_high : b.structure.at < b.reservations → part_of s 0 0 ≡ block_in s b
+      unfolding block_in
+      skipped_high h =
           rw (part_none s, le-leb 40 b.reservations low, eq-eqb (b.reservations % 8) 0 even, lt-leb b.reservations b.structure.at h)
 
-      pub whole : b.reservations ≤ b.structure.at → part_of s b.reservations (b.structure.at - b.reservations) ≡ blockIn s b
-      unfolding blockIn
+      pub whole : b.reservations ≤ b.structure.at → part_of s b.reservations (b.structure.at - b.reservations) ≡ block_in s b
+      unfolding block_in
       whole h = rw (le-leb 40 b.reservations low, eq-eqb (b.reservations % 8) 0 even, le-leb b.reservations b.structure.at h)

@@ -14,14 +14,14 @@ entry_past v i h = rw (le-leb _ _ h)
 
 -- a and z are the numbers read
 module _ (v : List ℕ) (i a z : ℕ) (inside : i < length v / 16) (ea : a ≡ double v (i * 16)) (ez : z ≡ double v (i * 16 + 8)) where
-  pub entry-address : (a ≡ 0 → ⊥) → Entry (record { address = a; size = z }) ≡ entry_of v i
+  pub entry_address : (a ≡ 0 → ⊥) → Entry (record { address = a; size = z }) ≡ entry_of v i
   unfolding entry_of
-  entry-address h = rw (lt-leb _ _ inside, ← ea, ← ez, ne_eqb _ _ h)
+  entry_address h = rw (lt-leb _ _ inside, ← ea, ← ez, ne_eqb _ _ h)
 
-  pub entry-size : a ≡ 0 → (z ≡ 0 → ⊥) → Entry (record { address = a; size = z }) ≡ entry_of v i
+  pub entry_size : a ≡ 0 → (z ≡ 0 → ⊥) → Entry (record { address = a; size = z }) ≡ entry_of v i
   unfolding entry_of
-  entry-size h n = rw (lt-leb _ _ inside, ← ea, ← ez, eq-eqb _ _ h, ne_eqb _ _ n)
+  entry_size h n = rw (lt-leb _ _ inside, ← ea, ← ez, eq-eqb _ _ h, ne_eqb _ _ n)
 
-  pub entry-end : a ≡ 0 → z ≡ 0 → End ≡ entry_of v i
+  pub entry_end : a ≡ 0 → z ≡ 0 → End ≡ entry_of v i
   unfolding entry_of
-  entry-end h n = rw (lt-leb _ _ inside, ← ea, ← ez, eq-eqb _ _ h, eq-eqb _ _ n)
+  entry_end h n = rw (lt-leb _ _ inside, ← ea, ← ez, eq-eqb _ _ h, eq-eqb _ _ n)

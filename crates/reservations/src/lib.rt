@@ -1,6 +1,6 @@
 // The memory reservation block: its bounds, and its entries as they stand. Devicetree Specification v0.4, section 5.3.
 ghost use Rattle.std.specs.Prelude.{◌≡◌};
-ghost use Rattle.reservations.specs.Reservations.{blockIn, entry_of};
+ghost use Rattle.reservations.specs.Reservations.{block_in, entry_of};
 
 use cells::Region;
 use fdt::Blocks;
@@ -15,7 +15,7 @@ pub enum Reservation {
 
 // The bytes of the block: from its offset up to the structure block; none where the block is skipped.
 pub fn reservation_block(s: &[u8], blocks: Blocks) -> &[u8]
-    ensures { result.now ≡ blockIn s.now blocks }
+    ensures { result.now ≡ block_in s.now blocks }
 {
     let at = blocks.reservations;
     let structure = blocks.structure;

@@ -7,21 +7,21 @@ use mathlib.Core.Bool.{Bool, true, false}
 use lib.ListN.{length}
 use lib.Dec.{eqb}
 use Rattle.words.specs.Bytes.{part_of}
-use Rattle.words.proofs.BytesLaws.{cond-elim}
-use Rattle.fdt.specs.Tree.{Property, Tok, begin, ended, prop, fin, bad, lexAt}
+use Rattle.words.proofs.BytesLaws.{cond_elim}
+use Rattle.fdt.specs.Tree.{Property, Tok, begin, ended, prop, fin, bad, lex_at}
 use Rattle.cells.specs.declared.CellCount.{CellCount}
 use Rattle.nodes.specs.declared.Found.{Found}
 use Rattle.nodes.specs.declared.Found.TheVariants.{At, Nothing}
 use Rattle.nodes.specs.declared.Value.{Value}
 use Rattle.nodes.specs.declared.Value.TheVariants.{Here, Missing}
-use Rattle.nodes.specs.Nav.{sameBytes, inside, contentAt, lookup, propAt}
-use Rattle.nodes.specs.Cells.{addressCells, sizeCells, countAt}
+use Rattle.nodes.specs.Nav.{same_bytes, inside, content_at, lookup, prop_at}
+use Rattle.nodes.specs.Cells.{address_cells, size_cells, count_at}
 use Rattle.reading.specs.Values.{value_of, count_of}
-use Rattle.reading.proofs.Places.{property-at}
-use Rattle.subtree.specs.Names.{statusName, okay, rangesName}
-use Rattle.subtree.specs.Subtree.{nodeAt, propsOf}
-use Rattle.subtree.proofs.SubtreeLaws.{value-at, count_at}
-use Rattle.reserved.specs.Reserved.{available, statedAlike, is_empty, childrenCount}
+use Rattle.reading.proofs.Places.{property_at}
+use Rattle.subtree.specs.Names.{status_name, okay, ranges_name}
+use Rattle.subtree.specs.Subtree.{node_at, props_of}
+use Rattle.subtree.proofs.SubtreeLaws.{value_at, count_at_lem}
+use Rattle.reserved.specs.Reserved.{available, stated_alike, is_empty, children_count}
 
 -- ── A value that is found is as long as is said ──
 abbrev Long : List ℕ → Value → Type 0
@@ -29,65 +29,65 @@ Long b (Here at len) = length (part_of b at len) ≡ len
 Long b Missing = Unit {0}
 
 module _ (b n : List ℕ) (name : List ℕ) where
-  lookup-long : (ts : List Tok) (p : ℕ) → lexAt b n p ≡ ts → Long b (lookup name ts)
+  lookup_long : (ts : List Tok) (p : ℕ) → lex_at b n p ≡ ts → Long b (lookup name ts)
   unfolding lookup
-  lookup-long [] p e = tt
-  lookup-long (begin q nm ∷ ts) p e = tt
-  lookup-long (ended ∷ ts) p e = tt
-  lookup-long (prop x ∷ ts) p e =
-      let a = property-at b n p e in
-      cond-elim (Long b) (sameBytes x.name name) _ _ (λ s. ap length a.part) (λ s. lookup-long ts a.next (sym a.tokens))
-  lookup-long (fin ∷ ts) p e = tt
-  lookup-long (bad ∷ ts) p e = tt
+  lookup_long [] p e = tt
+  lookup_long (begin q nm ∷ ts) p e = tt
+  lookup_long (ended ∷ ts) p e = tt
+  lookup_long (prop x ∷ ts) p e =
+      let a = property_at b n p e in
+      cond_elim (Long b) (same_bytes x.name name) _ _ (λ s. ap length a.part) (λ s. lookup_long ts a.next (sym a.tokens))
+  lookup_long (fin ∷ ts) p e = tt
+  lookup_long (bad ∷ ts) p e = tt
 
-  prop-long : (q : ℕ) → Long b (propAt b n q name)
-  unfolding propAt
-  prop-long q = go (contentAt b n q)
+  prop_long : (q : ℕ) → Long b (prop_at b n q name)
+  unfolding prop_at
+  prop_long q = go (content_at b n q)
     where
-      go : (c : Found) → Long b (inside Missing (λ p. lookup name (lexAt b n p)) c)
-      go (At p) = lookup-long (lexAt b n p) p refl
+      go : (c : Found) → Long b (inside Missing (λ p. lookup name (lex_at b n p)) c)
+      go (At p) = lookup_long (lex_at b n p) p refl
       go Nothing = tt
 
   -- x is what is found
-  module _ (q : ℕ) (x : Value) (is : x ≡ propAt b n q name) where
+  module _ (q : ℕ) (x : Value) (is : x ≡ prop_at b n q name) where
     -- whether it is there, with no bytes
-    pub empty-here : (at len : ℕ) → x ≡ Here at len → eqb len 0 ≡ is_empty (value_of name (propsOf (nodeAt b n q)))
-    empty-here at len e =
-        let h : length (part_of b at len) ≡ len = rw (← is, e) at (prop-long q) in
-        rw (← value-at b n q name, ← is, e, h)
+    pub empty_here : (at len : ℕ) → x ≡ Here at len → eqb len 0 ≡ is_empty (value_of name (props_of (node_at b n q)))
+    empty_here at len e =
+        let h : length (part_of b at len) ≡ len = rw (← is, e) at (prop_long q) in
+        rw (← value_at b n q name, ← is, e, h)
 
-    pub empty-missing : x ≡ Missing → false ≡ is_empty (value_of name (propsOf (nodeAt b n q)))
-    empty-missing e = rw (← value-at b n q name, ← is, e)
+    pub empty_missing : x ≡ Missing → false ≡ is_empty (value_of name (props_of (node_at b n q)))
+    empty_missing e = rw (← value_at b n q name, ← is, e)
 
 -- ── By `status` ──
-module _ (b n : List ℕ) (q : ℕ) (x : Value) (is : x ≡ propAt b n q statusName) where
+module _ (b n : List ℕ) (q : ℕ) (x : Value) (is : x ≡ prop_at b n q status_name) where
   -- v is the value, and s whether it is `okay`
-  pub status-here : (at len : ℕ) (v : List ℕ) (s : Bool) → x ≡ Here at len → v ≡ part_of b at len → s ≡ sameBytes v okay
-      → s ≡ available (propsOf (nodeAt b n q))
+  pub status_here : (at len : ℕ) (v : List ℕ) (s : Bool) → x ≡ Here at len → v ≡ part_of b at len → s ≡ same_bytes v okay
+      → s ≡ available (props_of (node_at b n q))
   unfolding available
-  status-here at len v s e ev es = rw (← value-at b n q statusName, ← is, e, ← ev) es
+  status_here at len v s e ev es = rw (← value_at b n q status_name, ← is, e, ← ev) es
 
-  pub status-missing : x ≡ Missing → true ≡ available (propsOf (nodeAt b n q))
+  pub status_missing : x ≡ Missing → true ≡ available (props_of (node_at b n q))
   unfolding available
-  status-missing e = rw (← value-at b n q statusName, ← is, e)
+  status_missing e = rw (← value_at b n q status_name, ← is, e)
 
 -- ── By the counts of the root and of /reserved-memory, and its `ranges` ──
 module _ (b n : List ℕ) (root q : ℕ) where
   -- whether both state the count of this name, and the same one: x and y are read, and t is the answer
-  pub alike : (name : List ℕ) (x y : CellCount) (t : Bool) → x ≡ countAt b n root name → y ≡ countAt b n q name → t ≡ statedAlike x y
-      → t ≡ statedAlike (count_of (value_of name (propsOf (nodeAt b n root)))) (count_of (value_of name (propsOf (nodeAt b n q))))
-  alike name x y t ex ey e = rw (← count_at b n root name, ← count_at b n q name, ← ex, ← ey) e
+  pub alike : (name : List ℕ) (x y : CellCount) (t : Bool) → x ≡ count_at b n root name → y ≡ count_at b n q name → t ≡ stated_alike x y
+      → t ≡ stated_alike (count_of (value_of name (props_of (node_at b n root)))) (count_of (value_of name (props_of (node_at b n q))))
+  alike name x y t ex ey e = rw (← count_at_lem b n root name, ← count_at_lem b n q name, ← ex, ← ey) e
 
-module _ (root ps : List Property) (x : Bool) (ex : x ≡ statedAlike (count_of (value_of addressCells root)) (count_of (value_of addressCells ps))) where
-  pub addresses-differ : x ≡ false → false ≡ childrenCount root ps
-  unfolding childrenCount
-  addresses-differ h = rw (← ex, h)
+module _ (root ps : List Property) (x : Bool) (ex : x ≡ stated_alike (count_of (value_of address_cells root)) (count_of (value_of address_cells ps))) where
+  pub addresses_differ : x ≡ false → false ≡ children_count root ps
+  unfolding children_count
+  addresses_differ h = rw (← ex, h)
 
-  module _ (same : x ≡ true) (y : Bool) (ey : y ≡ statedAlike (count_of (value_of sizeCells root)) (count_of (value_of sizeCells ps))) where
-    pub sizes-differ : y ≡ false → false ≡ childrenCount root ps
-    unfolding childrenCount
-    sizes-differ h = rw (← ex, same, ← ey, h)
+  module _ (same : x ≡ true) (y : Bool) (ey : y ≡ stated_alike (count_of (value_of size_cells root)) (count_of (value_of size_cells ps))) where
+    pub sizes_differ : y ≡ false → false ≡ children_count root ps
+    unfolding children_count
+    sizes_differ h = rw (← ex, same, ← ey, h)
 
-    pub by-ranges : y ≡ true → (z : Bool) → z ≡ is_empty (value_of rangesName ps) → z ≡ childrenCount root ps
-    unfolding childrenCount
-    by-ranges h z ez = rw (← ex, same, ← ey, h, ← ez)
+    pub by_ranges : y ≡ true → (z : Bool) → z ≡ is_empty (value_of ranges_name ps) → z ≡ children_count root ps
+    unfolding children_count
+    by_ranges h z ez = rw (← ex, same, ← ey, h, ← ez)

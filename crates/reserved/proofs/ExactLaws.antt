@@ -1,4 +1,4 @@
--- The exact dynamic case, from answers in hand: the number in `size`, and rows 0 and 1 of `alloc-ranges`. A case that is not the one asked
+-- The exact dynamic case, from answers in hand: the number in `size`, and rows 0 and 1 of `alloc_ranges`. A case that is not the one asked
 -- for is known by its place among the cases, as `let .. else` tells it. Assumes nothing.
 use mathlib.Core.Path.{◌≡◌, refl, sym, ◌∙◌, ap}
 use Prim.Native.Nat.{ℕ, ◌+◌, ◌*◌, ◌-◌, ◌^◌, ◌≤◌, ◌<◌}
@@ -10,49 +10,49 @@ use lib.ListN.{length}
 use lib.Dec.{eqb, leb, ltb}
 use borrow.Author.Tests.{eq-eqb, ne_eqb, eqb-true, eqb-false, lt-ltb, le-leb, lt-leb}
 use denote.Enum.Declared
-use Rattle.words.proofs.BytesLaws.{never, double-past}
+use Rattle.words.proofs.BytesLaws.{never, double_past}
 use Rattle.cells.specs.declared.CellCount.{CellCount}
 use Rattle.cells.specs.declared.CellCount.TheVariants.{Stated, Absent, Faulty}
 use Rattle.cells.specs.declared.Region.{Region}
 use Rattle.cells.specs.declared.RegRow.{RegRow}
 use Rattle.cells.specs.declared.RegRow.TheVariants.{PastReg, RegAt}
-use Rattle.cells.specs.Count.{cellBytes}
-use Rattle.cells.specs.Rows.{Table, unreadable, rows, number_at, reg_of, regRow}
+use Rattle.cells.specs.Count.{cell_bytes}
+use Rattle.cells.specs.Rows.{Table, unreadable, rows, number_at, reg_of, reg_row}
 use Rattle.cells.specs.contracts.CellCount as count
 use Rattle.cells.specs.contracts.RegRow as row
 use Rattle.reserved.specs.declared.Number.{Number}
 use Rattle.reserved.specs.declared.Number.TheVariants.{Is, NoNumber}
 use Rattle.reserved.specs.declared.Exact.{Exact}
 use Rattle.reserved.specs.declared.Exact.TheVariants.{One, NotExact}
-use Rattle.reserved.specs.Number.{cellsNumber}
-use Rattle.reserved.specs.Reserved.{exactBy, exactOf}
-use Rattle.reserved.proofs.NumberLaws.{number-missing, number_read}
+use Rattle.reserved.specs.Number.{cells_number}
+use Rattle.reserved.specs.Reserved.{exact_by, exact_of}
+use Rattle.reserved.proofs.NumberLaws.{number_missing, number_read}
 
 -- ── One entry of n bytes ──
 module _ (n : ℕ) where
-  pub of-nothing : (t : Table Region) → n ≡ 0 → NotExact ≡ exactBy n t
-  unfolding exactBy
-  of-nothing unreadable h = refl
-  of-nothing (rows []) h = refl
-  of-nothing (rows (r ∷ [])) h = rw h (go (eqb r.size 0))
+  pub of_nothing : (t : Table Region) → n ≡ 0 → NotExact ≡ exact_by n t
+  unfolding exact_by
+  of_nothing unreadable h = refl
+  of_nothing (rows []) h = refl
+  of_nothing (rows (r ∷ [])) h = rw h (go (eqb r.size 0))
     where
       go : (b : Bool) → NotExact ≡ cond (b && (ltb 0 0 && leb (r.address + 0) (2 ^ 64 - 1))) (One r) NotExact
       go true = refl
       go false = refl
-  of-nothing (rows (r ∷ q ∷ l)) h = refl
+  of_nothing (rows (r ∷ q ∷ l)) h = refl
 
   -- x is row 0, and no region
-  pub no-first : (t : Table Region) (x : RegRow) → x ≡ regRow t 0
-      → (Declared.tag_of row.the_type x ≡ 0) ⊎ (Declared.tag_of row.the_type x ≡ 1) → NotExact ≡ exactBy n t
-  unfolding exactBy
-  no-first unreadable x e k = refl
-  no-first (rows []) x e k = refl
-  no-first (rows (r ∷ l)) x e k = absurd (⊎_elim (λ z. omega arith) (λ z. omega arith) (rw e at k))
+  pub no_first : (t : Table Region) (x : RegRow) → x ≡ reg_row t 0
+      → (Declared.tag_of row.the_type x ≡ 0) ⊎ (Declared.tag_of row.the_type x ≡ 1) → NotExact ≡ exact_by n t
+  unfolding exact_by
+  no_first unreadable x e k = refl
+  no_first (rows []) x e k = refl
+  no_first (rows (r ∷ l)) x e k = absurd (⊎_elim (λ z. omega arith) (λ z. omega arith) (rw e at k))
 
   -- x is row 1, and not past the last
-  pub more_rows : (t : Table Region) (x : RegRow) → x ≡ regRow t 1
-      → (Declared.tag_of row.the_type x ≡ 0) ⊎ (Declared.tag_of row.the_type x ≡ 2) → NotExact ≡ exactBy n t
-  unfolding exactBy
+  pub more_rows : (t : Table Region) (x : RegRow) → x ≡ reg_row t 1
+      → (Declared.tag_of row.the_type x ≡ 0) ⊎ (Declared.tag_of row.the_type x ≡ 2) → NotExact ≡ exact_by n t
+  unfolding exact_by
   more_rows unreadable x e k = refl
   more_rows (rows []) x e k = refl
   more_rows (rows (r ∷ [])) x e k = absurd (⊎_elim (λ z. omega arith) (λ z. omega arith) (rw e at k))
@@ -60,9 +60,9 @@ module _ (n : ℕ) where
 
 -- row 0 is a region and row 1 is past the last
 pub record Lone (t : Table Region) (r : Region) (x y : RegRow) : Type 0 where
-  pub first : x ≡ regRow t 0
+  pub first : x ≡ reg_row t 0
   pub region : x ≡ RegAt r
-  pub second : y ≡ regRow t 1
+  pub second : y ≡ reg_row t 1
   pub past : y ≡ PastReg
 
 lone_row : (t : Table Region) (r : Region) (x y : RegRow) → Lone t r x y → t ≡ rows (r ∷ [])
@@ -72,58 +72,58 @@ lone_row (rows (q ∷ [])) r x y o = let h : q ≡ r = cc in rw h
 lone_row (rows (q ∷ p ∷ l)) r x y o = never (cc)
 
 module _ (n : ℕ) (t : Table Region) (r : Region) (x y : RegRow) (lone : Lone t r x y) where
-  pub other-size : (r.size ≡ n → ⊥) → NotExact ≡ exactBy n t
-  unfolding exactBy
-  other-size h = rw (lone_row t r x y lone, ne_eqb _ _ h)
+  pub other_size : (r.size ≡ n → ⊥) → NotExact ≡ exact_by n t
+  unfolding exact_by
+  other_size h = rw (lone_row t r x y lone, ne_eqb _ _ h)
 
   module _ (same : r.size ≡ n) (some : n ≡ 0 → ⊥) where
-    pub too_far : 2 ^ 64 - 1 < r.address + n → NotExact ≡ exactBy n t
-    unfolding exactBy
+    pub too_far : 2 ^ 64 - 1 < r.address + n → NotExact ≡ exact_by n t
+    unfolding exact_by
     too_far h = rw (lone_row t r x y lone, eq-eqb _ _ same, lt-ltb 0 n (omega arith), lt-leb _ _ h)
 
-    pub exactly : r.address + n ≤ 2 ^ 64 - 1 → One r ≡ exactBy n t
-    unfolding exactBy
+    pub exactly : r.address + n ≤ 2 ^ 64 - 1 → One r ≡ exact_by n t
+    unfolding exact_by
     exactly h = rw (lone_row t r x y lone, eq-eqb _ _ same, lt-ltb 0 n (omega arith), le-leb _ _ h)
 
 -- ── The count and `size` ──
 -- d is not stated
 pub unstated : (a d : CellCount) (size ranges : List ℕ)
-    → (Declared.tag_of count.the_type d ≡ 1) ⊎ (Declared.tag_of count.the_type d ≡ 2) → NotExact ≡ exactOf a d size ranges
-unfolding exactOf
+    → (Declared.tag_of count.the_type d ≡ 1) ⊎ (Declared.tag_of count.the_type d ≡ 2) → NotExact ≡ exact_of a d size ranges
+unfolding exact_of
 unstated a (Stated c) size ranges k = absurd (⊎_elim (λ z. omega arith) (λ z. omega arith) k)
 unstated a Absent size ranges k = refl
 unstated a Faulty size ranges k = refl
 
 module _ (a d : CellCount) (c : ℕ) (stated : d ≡ Stated c) (size ranges : List ℕ) where
-  other_length : (length size ≡ cellBytes c → ⊥) → NotExact ≡ exactOf a d size ranges
-  unfolding exactOf
+  other_length : (length size ≡ cell_bytes c → ⊥) → NotExact ≡ exact_of a d size ranges
+  unfolding exact_of
   other_length h = rw (stated, ne_eqb _ _ h)
 
-  own-length : length size ≡ cellBytes c → exactBy (number_at size (cellBytes c) 0) (reg_of a (Stated c) ranges) ≡ exactOf a d size ranges
-  unfolding exactOf
-  own-length h = rw (stated, eq-eqb _ _ h)
+  own_length : length size ≡ cell_bytes c → exact_by (number_at size (cell_bytes c) 0) (reg_of a (Stated c) ranges) ≡ exact_of a d size ranges
+  unfolding exact_of
+  own_length h = rw (stated, eq-eqb _ _ h)
 
   -- m is what was read of `size`
-  module _ (m : Number) (is : m ≡ cellsNumber size c) where
+  module _ (m : Number) (is : m ≡ cells_number size c) where
     -- no number: the bytes are too few, or cells are not 1 or 2, so that they take no bytes and say 0
-    pub no_number : m ≡ NoNumber → NotExact ≡ exactOf a d size ranges
-    no_number e = ⊎_elim none (λ short. other_length (λ h. omega arith)) (number-missing size c m is e)
+    pub no_number : m ≡ NoNumber → NotExact ≡ exact_of a d size ranges
+    no_number e = ⊎_elim none (λ short. other_length (λ h. omega arith)) (number_missing size c m is e)
       where
-        none : cellBytes c ≡ 0 → NotExact ≡ exactOf a d size ranges
+        none : cell_bytes c ≡ 0 → NotExact ≡ exact_of a d size ranges
         none z = go (eqb (length size) 0) refl
           where
-            go : (b : Bool) → eqb (length size) 0 ≡ b → NotExact ≡ exactOf a d size ranges
+            go : (b : Bool) → eqb (length size) 0 ≡ b → NotExact ≡ exact_of a d size ranges
             go true u =
                 let h : length size ≡ 0 = eqb-true _ _ u in
-                of-nothing _ _ (rw z (double-past size 0 (omega arith))) ∙ own-length (omega arith)
+                of_nothing _ _ (rw z (double_past size 0 (omega arith))) ∙ own_length (omega arith)
             go false u = other_length (λ h. eqb-false _ _ u (h ∙ z))
 
     module _ (n : ℕ) (read : m ≡ Is n) where
-      pub not-long : (length size ≡ c * 4 → ⊥) → NotExact ≡ exactOf a d size ranges
-      not-long h = other_length (λ e. h (e ∙ (number_read size c m is n read).0))
+      pub not_long : (length size ≡ c * 4 → ⊥) → NotExact ≡ exact_of a d size ranges
+      not_long h = other_length (λ e. h (e ∙ (number_read size c m is n read).0))
 
       -- what is left is for the rows to say
-      pub by_rows : length size ≡ c * 4 → (x : Exact) → x ≡ exactBy n (reg_of a (Stated c) ranges) → x ≡ exactOf a d size ranges
+      pub by_rows : length size ≡ c * 4 → (x : Exact) → x ≡ exact_by n (reg_of a (Stated c) ranges) → x ≡ exact_of a d size ranges
       by_rows h x e =
           let w = number_read size c m is n read in
-          e ∙ ap (λ (k : ℕ). exactBy k (reg_of a (Stated c) ranges)) w.2 ∙ own-length (h ∙ sym w.0)
+          e ∙ ap (λ (k : ℕ). exact_by k (reg_of a (Stated c) ranges)) w.2 ∙ own_length (h ∙ sym w.0)

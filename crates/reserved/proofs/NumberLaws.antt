@@ -10,26 +10,26 @@ use lib.ListN.{length}
 use lib.Dec.{eqb, leb}
 use borrow.Author.Tests.{ne_eqb, le-leb, lt-leb, eqb-true, eqb-false, leb-true, leb-false}
 use Rattle.words.specs.Bytes.{word, double}
-use Rattle.words.proofs.BytesLaws.{never, cond-elim}
-use Rattle.cells.specs.Count.{cellBytes}
+use Rattle.words.proofs.BytesLaws.{never, cond_elim}
+use Rattle.cells.specs.Count.{cell_bytes}
 use Rattle.cells.specs.Rows.{number_at}
 use Rattle.reserved.specs.declared.Number.{Number}
 use Rattle.reserved.specs.declared.Number.TheVariants.{Is, NoNumber}
-use Rattle.reserved.specs.Number.{cellsNumber}
+use Rattle.reserved.specs.Number.{cells_number}
 
 -- cells that take bytes take four each, and are at most two
-four-each : (c : ℕ) → (cellBytes c ≡ 0 → ⊥) → (cellBytes c ≡ c * 4) × (c ≤ 2)
-unfolding cellBytes
-four-each c =
-    cond-elim (λ (x : ℕ). (x ≡ 0 → ⊥) → (x ≡ c * 4) × (c ≤ 2)) (eqb c 1) _ _
+four_each : (c : ℕ) → (cell_bytes c ≡ 0 → ⊥) → (cell_bytes c ≡ c * 4) × (c ≤ 2)
+unfolding cell_bytes
+four_each c =
+    cond_elim (λ (x : ℕ). (x ≡ 0 → ⊥) → (x ≡ c * 4) × (c ≤ 2)) (eqb c 1) _ _
     (λ e o. let h : c ≡ 1 = eqb-true _ _ e in (omega arith, omega arith))
-    (λ e. cond-elim (λ (x : ℕ). (x ≡ 0 → ⊥) → (x ≡ c * 4) × (c ≤ 2)) (eqb c 2) _ _
+    (λ e. cond_elim (λ (x : ℕ). (x ≡ 0 → ⊥) → (x ≡ c * 4) × (c ≤ 2)) (eqb c 2) _ _
     (λ u o. let h : c ≡ 2 = eqb-true _ _ u in (omega arith, omega arith))
     (λ u o. absurd (o refl)))
 
 module _ (v : List ℕ) (c : ℕ) where
-  by_width : cellsNumber v c ≡ cond (eqb (cellBytes c) 0) NoNumber (cond (leb (cellBytes c) (length v)) (Is (number_at v (cellBytes c) 0)) NoNumber)
-  unfolding cellsNumber cellBytes
+  by_width : cells_number v c ≡ cond (eqb (cell_bytes c) 0) NoNumber (cond (leb (cell_bytes c) (length v)) (Is (number_at v (cell_bytes c) 0)) NoNumber)
+  unfolding cells_number cell_bytes
   by_width = go (eqb c 1) (eqb c 2)
     where
       go : (p q : Bool)
@@ -41,36 +41,36 @@ module _ (v : List ℕ) (c : ℕ) where
       go false false = refl
 
   -- each answer by the bytes in hand
-  module _ (w : ℕ) (e : cellBytes c ≡ w) where
-    pub number-none : w ≡ 0 → NoNumber ≡ cellsNumber v c
-    number-none h = rw (by_width, e, h)
+  module _ (w : ℕ) (e : cell_bytes c ≡ w) where
+    pub number_none : w ≡ 0 → NoNumber ≡ cells_number v c
+    number_none h = rw (by_width, e, h)
 
-    pub number_short : length v < w → NoNumber ≡ cellsNumber v c
+    pub number_short : length v < w → NoNumber ≡ cells_number v c
     number_short h = let o : w ≡ 0 → ⊥ = λ z. omega arith in rw (by_width, e, ne_eqb _ _ o, lt-leb _ _ h)
 
-    pub number_is : (w ≡ 0 → ⊥) → w ≤ length v → (n : ℕ) → n ≡ number_at v w 0 → Is n ≡ cellsNumber v c
+    pub number_is : (w ≡ 0 → ⊥) → w ≤ length v → (n : ℕ) → n ≡ number_at v w 0 → Is n ≡ cells_number v c
     number_is o h n i = rw (by_width, e, ne_eqb _ _ o, le-leb _ _ h, i)
 
   -- what an answer in hand says
-  module _ (m : Number) (is : m ≡ cellsNumber v c) where
-    pub number-missing : m ≡ NoNumber → (cellBytes c ≡ 0) ⊎ (length v < cellBytes c)
-    number-missing h = go (eqb (cellBytes c) 0) refl (leb (cellBytes c) (length v)) refl
+  module _ (m : Number) (is : m ≡ cells_number v c) where
+    pub number_missing : m ≡ NoNumber → (cell_bytes c ≡ 0) ⊎ (length v < cell_bytes c)
+    number_missing h = go (eqb (cell_bytes c) 0) refl (leb (cell_bytes c) (length v)) refl
       where
-        go : (p : Bool) → eqb (cellBytes c) 0 ≡ p → (q : Bool) → leb (cellBytes c) (length v) ≡ q
-            → (cellBytes c ≡ 0) ⊎ (length v < cellBytes c)
+        go : (p : Bool) → eqb (cell_bytes c) 0 ≡ p → (q : Bool) → leb (cell_bytes c) (length v) ≡ q
+            → (cell_bytes c ≡ 0) ⊎ (length v < cell_bytes c)
         go true e q u = inl (eqb-true _ _ e)
         go false e true u = let i = number_is _ refl (eqb-false _ _ e) (leb-true _ _ u) _ refl in never (cc)
         go false e false u = inr (leb-false _ _ u)
 
-    pub number_read : (n : ℕ) → m ≡ Is n → (cellBytes c ≡ c * 4) × (c ≤ 2) × (n ≡ number_at v (cellBytes c) 0)
-    number_read n h = go (eqb (cellBytes c) 0) refl (leb (cellBytes c) (length v)) refl
+    pub number_read : (n : ℕ) → m ≡ Is n → (cell_bytes c ≡ c * 4) × (c ≤ 2) × (n ≡ number_at v (cell_bytes c) 0)
+    number_read n h = go (eqb (cell_bytes c) 0) refl (leb (cell_bytes c) (length v)) refl
       where
-        go : (p : Bool) → eqb (cellBytes c) 0 ≡ p → (q : Bool) → leb (cellBytes c) (length v) ≡ q
-            → (cellBytes c ≡ c * 4) × (c ≤ 2) × (n ≡ number_at v (cellBytes c) 0)
-        go true e q u = let i = number-none _ refl (eqb-true _ _ e) in never (cc)
+        go : (p : Bool) → eqb (cell_bytes c) 0 ≡ p → (q : Bool) → leb (cell_bytes c) (length v) ≡ q
+            → (cell_bytes c ≡ c * 4) × (c ≤ 2) × (n ≡ number_at v (cell_bytes c) 0)
+        go true e q u = let i = number_none _ refl (eqb-true _ _ e) in never (cc)
         go false e true u =
-            let o : cellBytes c ≡ 0 → ⊥ = eqb-false _ _ e in
+            let o : cell_bytes c ≡ 0 → ⊥ = eqb-false _ _ e in
             let i = number_is _ refl o (leb-true _ _ u) _ refl in
-            let w = four-each c o in
+            let w = four_each c o in
             (w.0, w.1, cc)
         go false e false u = let i = number_short _ refl (leb-false _ _ u) in never (cc)

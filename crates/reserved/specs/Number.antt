@@ -5,7 +5,7 @@ use Rattle.reserved.specs.declared.Number.{Number}
 use Rattle.reserved.specs.declared.Number.TheVariants.{Is, NoNumber}
 
 -- one cell has 4 bytes, two have 8; no number for any other count or too few bytes
-unfoldable pub cellsNumber : List ℕ → ℕ → Number
-cellsNumber v cells =
+unfoldable pub cells_number : List ℕ → ℕ → Number
+cells_number v cells =
     cond (eqb cells 1) (cond (leb 4 (length v)) (Is (word v 0)) NoNumber)
     (cond (eqb cells 2) (cond (leb 8 (length v)) (Is (double v 0)) NoNumber) NoNumber)

@@ -7,52 +7,52 @@ use Rattle.cells.specs.declared.Region.{Region}
 use Rattle.cells.specs.Count.{size_width}
 use Rattle.cells.specs.Rows.{Table, unreadable, rows, number_at, reg_of}
 use Rattle.fdt.specs.Tree.{Property}
-use Rattle.nodes.specs.Nav.{sameBytes}
-use Rattle.nodes.specs.Cells.{addressCells, sizeCells}
+use Rattle.nodes.specs.Nav.{same_bytes}
+use Rattle.nodes.specs.Cells.{address_cells, size_cells}
 use Rattle.reading.specs.Values.{value_of, count_of}
-use Rattle.subtree.specs.Names.{statusName, okay, rangesName}
+use Rattle.subtree.specs.Names.{status_name, okay, ranges_name}
 use Rattle.reserved.specs.declared.Exact.{Exact}
 use Rattle.reserved.specs.declared.Exact.TheVariants.{One, NotExact}
 
 -- "A child counts if `status` is absent or `okay` with its zero byte."
-abbrev pub availableBy : Option (List ℕ) → Bool
-availableBy nothing = true
-availableBy (some v) = sameBytes v okay
+abbrev pub available_by : Option (List ℕ) → Bool
+available_by nothing = true
+available_by (some v) = same_bytes v okay
 
 unfoldable pub available : List Property → Bool
-available ps = availableBy (value_of statusName ps)
+available ps = available_by (value_of status_name ps)
 
 -- both state the count, "in 4 bytes each", and "they are equal"
-abbrev pub statedAlike : CellCount → CellCount → Bool
-statedAlike (Stated x) (Stated y) = eqb x y
-statedAlike (Stated x) Absent = false
-statedAlike (Stated x) Faulty = false
-statedAlike Absent d = false
-statedAlike Faulty d = false
+abbrev pub stated_alike : CellCount → CellCount → Bool
+stated_alike (Stated x) (Stated y) = eqb x y
+stated_alike (Stated x) Absent = false
+stated_alike (Stated x) Faulty = false
+stated_alike Absent d = false
+stated_alike Faulty d = false
 
 abbrev pub is_empty : Option (List ℕ) → Bool
 is_empty nothing = false
 is_empty (some v) = eqb (length v) 0
 
 -- "Children count only if it and the root both state both cell counts in 4 bytes each, they are equal, and it has an empty `ranges`."
-unfoldable pub childrenCount : List Property → List Property → Bool
-childrenCount root ps =
-    statedAlike (count_of (value_of addressCells root)) (count_of (value_of addressCells ps))
-    && (statedAlike (count_of (value_of sizeCells root)) (count_of (value_of sizeCells ps))
-    && is_empty (value_of rangesName ps))
+unfoldable pub children_count : List Property → List Property → Bool
+children_count root ps =
+    stated_alike (count_of (value_of address_cells root)) (count_of (value_of address_cells ps))
+    && (stated_alike (count_of (value_of size_cells root)) (count_of (value_of size_cells ps))
+    && is_empty (value_of ranges_name ps))
 
--- "`alloc-ranges` is one entry of that same nonzero size, and the sum is below 2^64"
-unfoldable pub exactBy : ℕ → Table Region → Exact
-exactBy size unreadable = NotExact
-exactBy size (rows []) = NotExact
-exactBy size (rows (r ∷ [])) =
+-- "`alloc_ranges` is one entry of that same nonzero size, and the sum is below 2^64"
+unfoldable pub exact_by : ℕ → Table Region → Exact
+exact_by size unreadable = NotExact
+exact_by size (rows []) = NotExact
+exact_by size (rows (r ∷ [])) =
     cond (eqb r.size size && (ltb 0 size && leb (r.address + size) (2 ^ 64 - 1))) (One r) NotExact
-exactBy size (rows (r ∷ q ∷ l)) = NotExact
+exact_by size (rows (r ∷ q ∷ l)) = NotExact
 
 -- "one claim, exactly if `size` has the length of its cells, cells are 1 or 2": by counts that are stated. An entry is readable only where
 -- both counts are 1 or 2
-unfoldable pub exactOf : CellCount → CellCount → List ℕ → List ℕ → Exact
-exactOf a (Stated c) size ranges =
-    cond (eqb (length size) (size_width (Stated c))) (exactBy (number_at size (size_width (Stated c)) 0) (reg_of a (Stated c) ranges)) NotExact
-exactOf a Absent size ranges = NotExact
-exactOf a Faulty size ranges = NotExact
+unfoldable pub exact_of : CellCount → CellCount → List ℕ → List ℕ → Exact
+exact_of a (Stated c) size ranges =
+    cond (eqb (length size) (size_width (Stated c))) (exact_by (number_at size (size_width (Stated c)) 0) (reg_of a (Stated c) ranges)) NotExact
+exact_of a Absent size ranges = NotExact
+exact_of a Faulty size ranges = NotExact

@@ -1,8 +1,8 @@
 // The rules of /reserved-memory: when its children count, which of them, and the one dynamic case that is exact.
 ghost use Rattle.std.specs.Prelude.{◌≡◌};
-ghost use Rattle.subtree.specs.Subtree.{nodeAt, propsOf};
-ghost use Rattle.reserved.specs.Number.{cellsNumber};
-ghost use Rattle.reserved.specs.Reserved.{available, statedAlike, childrenCount, exactOf};
+ghost use Rattle.subtree.specs.Subtree.{node_at, props_of};
+ghost use Rattle.reserved.specs.Number.{cells_number};
+ghost use Rattle.reserved.specs.Reserved.{available, stated_alike, children_count, exact_of};
 
 use cells::{CellCount, RegRow, Region};
 use nodes::Value;
@@ -23,7 +23,7 @@ pub enum Exact {
 
 // The number in the first cells of some bytes: one cell or two.
 pub fn cells_to_usize(bytes: &[u8], cells: usize) -> Number
-    ensures { result ≡ cellsNumber bytes.now cells }
+    ensures { result ≡ cells_number bytes.now cells }
 {
     if cells == 1 {
         if bytes.len() < 4 {
@@ -42,7 +42,7 @@ pub fn cells_to_usize(bytes: &[u8], cells: usize) -> Number
 
 // Whether both nodes state the count, and the same one.
 fn stated_alike(root: CellCount, own: CellCount) -> bool
-    ensures { result ≡ statedAlike root own }
+    ensures { result ≡ stated_alike root own }
 {
     match root {
         CellCount::Stated(x) => match own {
@@ -57,7 +57,7 @@ fn stated_alike(root: CellCount, own: CellCount) -> bool
 
 // Whether the children of /reserved-memory, at `node`, count.
 pub fn children_count<'a>(structure: &'a [u8], strings: &'a [u8], root: usize, node: usize) -> bool
-    ensures { result ≡ childrenCount (propsOf (nodeAt structure.now strings.now root)) (propsOf (nodeAt structure.now strings.now node)) }
+    ensures { result ≡ children_count (props_of (node_at structure.now strings.now root)) (props_of (node_at structure.now strings.now node)) }
 {
     let address = nodes::address_cells(structure, strings, root);
     if !stated_alike(address, nodes::address_cells(structure, strings, node)) {
@@ -79,7 +79,7 @@ pub fn reserved_memory_node_is_available<'a>(
     strings: &'a [u8],
     node: usize,
 ) -> bool
-    ensures { result ≡ available (propsOf (nodeAt structure.now strings.now node)) }
+    ensures { result ≡ available (props_of (node_at structure.now strings.now node)) }
 {
     match nodes::getprop(structure, strings, node, b"status") {
         Value::Here(at, len) => nodes::same(words::part(structure, at, len), b"okay\0"),
@@ -87,14 +87,14 @@ pub fn reserved_memory_node_is_available<'a>(
     }
 }
 
-// The region of a dynamic reservation whose `alloc-ranges` leave it no choice. Both values are read by /reserved-memory's own cells.
+// The region of a dynamic reservation whose `alloc_ranges` leave it no choice. Both values are read by /reserved-memory's own cells.
 pub fn visit_exact_dynamic_reserved_memory_range<'a>(
     size: &'a [u8],
     ranges: &'a [u8],
     address: CellCount,
     length: CellCount,
 ) -> Exact
-    ensures { result ≡ exactOf address length size.now ranges.now }
+    ensures { result ≡ exact_of address length size.now ranges.now }
 {
     let CellCount::Stated(cells) = length else {
         return Exact::NotExact;

@@ -9,42 +9,42 @@ use Rattle.memory.specs.declared.MemoryMap.{MemoryMap}
 use Rattle.memory.specs.declared.Answer.{Answer}
 use Rattle.memory.specs.declared.Answer.TheVariants.{Done, UnknownKind, MapFull}
 use Rattle.memory.specs.Map.{answered, registered}
-use Rattle.memory.specs.Run.{isDone, registeredAll}
+use Rattle.memory.specs.Run.{is_done, registered_all}
 
 -- an answer is done, or it is not
-pub done-or : (a : Answer) (P : Type 0) → (a ≡ Done → P) → ((a ≡ Done → ⊥) → isDone a ≡ false → P) → P
-done-or Done P f g = f refl
-done-or UnknownKind P f g = g (λ e. let z : ◌≡◌ {A = ℕ} 0 1 = cc in omega arith) refl
-done-or MapFull P f g = g (λ e. let z : ◌≡◌ {A = ℕ} 0 1 = cc in omega arith) refl
+pub done_or : (a : Answer) (P : Type 0) → (a ≡ Done → P) → ((a ≡ Done → ⊥) → is_done a ≡ false → P) → P
+done_or Done P f g = f refl
+done_or UnknownKind P f g = g (λ e. let z : ◌≡◌ {A = ℕ} 0 1 = cc in omega arith) refl
+done_or MapFull P f g = g (λ e. let z : ◌≡◌ {A = ℕ} 0 1 = cc in omega arith) refl
 
-pub run-nil : (p : ℕ) (m : MemoryMap) → registeredAll p m [] ≡ answered m Done
-unfolding registeredAll
-run-nil p m = refl
+pub run_nil : (p : ℕ) (m : MemoryMap) → registered_all p m [] ≡ answered m Done
+unfolding registered_all
+run_nil p m = refl
 
 -- the first claim is accepted, and the run goes on
 pub run_on : (p : ℕ) (m : MemoryMap) (c : Claim) (cs : List Claim) → (registered p m c).answer ≡ Done
-    → registeredAll p m (c ∷ cs) ≡ registeredAll p (registered p m c).map cs
-unfolding registeredAll
-run_on p m c cs e = rw (ap isDone e)
+    → registered_all p m (c ∷ cs) ≡ registered_all p (registered p m c).map cs
+unfolding registered_all
+run_on p m c cs e = rw (ap is_done e)
 
 -- the first claim is refused, and the run stops
-pub run-stops : (p : ℕ) (m : MemoryMap) (c : Claim) (cs : List Claim) → isDone (registered p m c).answer ≡ false
-    → registeredAll p m (c ∷ cs) ≡ registered p m c
-unfolding registeredAll
-run-stops p m c cs e = rw e
+pub run_stops : (p : ℕ) (m : MemoryMap) (c : Claim) (cs : List Claim) → is_done (registered p m c).answer ≡ false
+    → registered_all p m (c ∷ cs) ≡ registered p m c
+unfolding registered_all
+run_stops p m c cs e = rw e
 
 -- an accepted run accepts its first claim, and then the others
-pub run-accepted : (p : ℕ) (m : MemoryMap) (c : Claim) (cs : List Claim) (P : Type 0) → (registeredAll p m (c ∷ cs)).answer ≡ Done
-    → ((registered p m c).answer ≡ Done → (registeredAll p (registered p m c).map cs).answer ≡ Done → P) → P
-run-accepted p m c cs P e f =
-    done-or (registered p m c).answer P
+pub run_accepted : (p : ℕ) (m : MemoryMap) (c : Claim) (cs : List Claim) (P : Type 0) → (registered_all p m (c ∷ cs)).answer ≡ Done
+    → ((registered p m c).answer ≡ Done → (registered_all p (registered p m c).map cs).answer ≡ Done → P) → P
+run_accepted p m c cs P e f =
+    done_or (registered p m c).answer P
     (λ d. f d (rw (run_on p m c cs d) at e))
-    (λ n s. absurd (n (rw (run-stops p m c cs s) at e)))
+    (λ n s. absurd (n (rw (run_stops p m c cs s) at e)))
 
 -- sources one after the other are one run: the second goes on from where the first is done
-pub run-append : (p : ℕ) (m : MemoryMap) (cs ds : List Claim) → (registeredAll p m cs).answer ≡ Done
-    → registeredAll p m (cs ++ ds) ≡ registeredAll p (registeredAll p m cs).map ds
-run-append p m [] ds e = rw (run-nil p m)
-run-append p m (c ∷ cs) ds e =
-    run-accepted p m c cs _ e
-    (λ d r. rw (run_on p m c (cs ++ ds) d, run_on p m c cs d) (run-append p (registered p m c).map cs ds r))
+pub run_append : (p : ℕ) (m : MemoryMap) (cs ds : List Claim) → (registered_all p m cs).answer ≡ Done
+    → registered_all p m (cs ++ ds) ≡ registered_all p (registered_all p m cs).map ds
+run_append p m [] ds e = rw (run_nil p m)
+run_append p m (c ∷ cs) ds e =
+    run_accepted p m c cs _ e
+    (λ d r. rw (run_on p m c (cs ++ ds) d, run_on p m c cs d) (run_append p (registered p m c).map cs ds r))

@@ -6,7 +6,7 @@ use Rattle.entry.specs.Claim.{Claim, rounded}
 use Rattle.memory.specs.declared.MemoryMap.{MemoryMap}
 use Rattle.memory.specs.declared.Answer.TheVariants.{Done}
 use Rattle.memory.specs.Map.{slots_of, at, Absorbs, Something}
-use Rattle.memory.specs.Run.{registeredAll}
+use Rattle.memory.specs.Run.{registered_all}
 
 -- every claim has one of the seven kinds; one has none
 abbrev pub Kinds : List Claim → Type 0
@@ -27,5 +27,5 @@ pub record Overflows (p : ℕ) (m : MemoryMap) (cs : List Claim) : Type 0 where
   pub next : Claim
   pub after : List Claim
   pub run : cs ≡ before ++ (next ∷ after)
-  pub accepted : (registeredAll p m before).answer ≡ Done
-  pub refused : Refused p (registeredAll p m before).map next
+  pub accepted : (registered_all p m before).answer ≡ Done
+  pub refused : Refused p (registered_all p m before).map next

@@ -5,41 +5,41 @@ use Prim.Native.Nat.{ℕ}
 use Rattle.entry.specs.Claim.{Claim}
 use Rattle.memory.specs.declared.MemoryMap.{MemoryMap}
 use Rattle.late_claim.specs.declared.Late.{Late}
-use Rattle.late_claim.specs.Late.{After, lateNumber, lateOf, after}
-use Rattle.map_numbers.specs.Numbers.{mapIn, numbersOf}
+use Rattle.late_claim.specs.Late.{After, late_number, late_of, after}
+use Rattle.map_numbers.specs.Numbers.{map_in, numbers_of}
 use Rattle.sheet.specs.declared.PageSheet.{PageSheet}
 use Rattle.startup.specs.declared.Refusal.{Refusal}
 use Rattle.startup.specs.declared.Report.{Report}
 use Rattle.startup.specs.declared.Report.TheVariants.{Done, Refused}
-use Rattle.startup.specs.Report.{reportOf}
-use Rattle.startup.specs.Start.{mapLeft}
+use Rattle.startup.specs.Report.{report_of}
+use Rattle.startup.specs.Start.{map_left}
 use Rattle.service.specs.declared.WharfthrumLate.{WharfthrumLate}
-use Rattle.service.specs.Late.{numbersLeft, memoryAfter, plainLate}
+use Rattle.service.specs.Late.{numbers_left, memory_after, plain_late}
 
 -- ── A build: its report r ──
-module _ (p : ℕ) (s l k : List ℕ) (r : Report) (is : r ≡ reportOf p s l) where
-  pub left-refused : {f : Refusal} → r ≡ Refused f → k ≡ memoryAfter p s l k
-  unfolding memoryAfter
-  left-refused e = sym (ap (λ (x : Report). numbersLeft x (mapLeft p s l) k) (sym is ∙ e))
+module _ (p : ℕ) (s l k : List ℕ) (r : Report) (is : r ≡ report_of p s l) where
+  pub left_refused : {f : Refusal} → r ≡ Refused f → k ≡ memory_after p s l k
+  unfolding memory_after
+  left_refused e = sym (ap (λ (x : Report). numbers_left x (map_left p s l) k) (sym is ∙ e))
 
-  pub left-done : {n : ℕ} {sheet : PageSheet} → r ≡ Done n sheet → {m : MemoryMap} → m ≡ mapLeft p s l
-      → {k' : List ℕ} → k' ≡ numbersOf m → k' ≡ memoryAfter p s l k
-  unfolding memoryAfter
-  left-done e h i = i ∙ ap numbersOf h ∙ sym (ap (λ (x : Report). numbersLeft x (mapLeft p s l) k) (sym is ∙ e))
+  pub left_done : {n : ℕ} {sheet : PageSheet} → r ≡ Done n sheet → {m : MemoryMap} → m ≡ map_left p s l
+      → {k' : List ℕ} → k' ≡ numbers_of m → k' ≡ memory_after p s l k
+  unfolding memory_after
+  left_done e h i = i ∙ ap numbers_of h ∙ sym (ap (λ (x : Report). numbers_left x (map_left p s l) k) (sym is ∙ e))
 
 -- ── A late claim: on the map m, which was loaded from the numbers k, it left r and the slots l' ──
-abbrev plainWith : ℕ → Late → WharfthrumLate
-plainWith x r = record { number = x; count = r.count }
+abbrev plain_with : ℕ → Late → WharfthrumLate
+plain_with x r = record { number = x; count = r.count }
 
-module _ (p : ℕ) (k : List ℕ) (c : Claim) (n : ℕ) (l : List ℕ) {m : MemoryMap} (loaded : m ≡ mapIn k) {r : Late} {l' : List ℕ} (is : after r l' ≡ lateOf p m c n l) where
-  whole : after r l' ≡ lateOf p (mapIn k) c n l
-  whole = is ∙ ap (λ (z : MemoryMap). lateOf p z c n l) loaded
+module _ (p : ℕ) (k : List ℕ) (c : Claim) (n : ℕ) (l : List ℕ) {m : MemoryMap} (loaded : m ≡ map_in k) {r : Late} {l' : List ℕ} (is : after r l' ≡ late_of p m c n l) where
+  whole : after r l' ≡ late_of p (map_in k) c n l
+  whole = is ∙ ap (λ (z : MemoryMap). late_of p z c n l) loaded
 
-  pub left-answer : {x : ℕ} → x ≡ lateNumber r.answer → plainWith x r ≡ plainLate (lateOf p (mapIn k) c n l)
-  left-answer e = ap (λ (z : ℕ). plainWith z r) e ∙ ap plainLate whole
+  pub left_answer : {x : ℕ} → x ≡ late_number r.answer → plain_with x r ≡ plain_late (late_of p (map_in k) c n l)
+  left_answer e = ap (λ (z : ℕ). plain_with z r) e ∙ ap plain_late whole
 
-  pub left-slots : l' ≡ (lateOf p (mapIn k) c n l).table
-  left-slots = ap (λ (a : After). a.table) whole
+  pub left_slots : l' ≡ (late_of p (map_in k) c n l).table
+  left_slots = ap (λ (a : After). a.table) whole
 
-  pub left-memory : {k' : List ℕ} → k' ≡ numbersOf r.map → k' ≡ numbersOf (lateOf p (mapIn k) c n l).map
-  left-memory e = e ∙ ap (λ (a : After). numbersOf a.map) whole
+  pub left_memory : {k' : List ℕ} → k' ≡ numbers_of r.map → k' ≡ numbers_of (late_of p (map_in k) c n l).map
+  left_memory e = e ∙ ap (λ (a : After). numbers_of a.map) whole

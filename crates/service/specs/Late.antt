@@ -1,23 +1,23 @@
 -- The map in the caller's memory, and a late claim's answer in plain fields: request L3 of document 02.
 use Rattle.std.specs.Prelude.{List, ℕ}
 use Rattle.memory.specs.declared.MemoryMap.{MemoryMap}
-use Rattle.late_claim.specs.Late.{lateNumber, After}
-use Rattle.map_numbers.specs.Numbers.{numbersOf}
+use Rattle.late_claim.specs.Late.{late_number, After}
+use Rattle.map_numbers.specs.Numbers.{numbers_of}
 use Rattle.startup.specs.declared.Report.{Report}
 use Rattle.startup.specs.declared.Report.TheVariants.{Done, Refused}
-use Rattle.startup.specs.Report.{reportOf}
-use Rattle.startup.specs.Start.{mapLeft}
+use Rattle.startup.specs.Report.{report_of}
+use Rattle.startup.specs.Start.{map_left}
 use Rattle.service.specs.declared.WharfthrumLate.{WharfthrumLate}
 
 -- the map m where the build is done; where it is refused the numbers k stay as they were
-abbrev pub numbersLeft : Report → MemoryMap → List ℕ → List ℕ
-numbersLeft (Done n sheet) m k = numbersOf m
-numbersLeft (Refused r) m k = k
+abbrev pub numbers_left : Report → MemoryMap → List ℕ → List ℕ
+numbers_left (Done n sheet) m k = numbers_of m
+numbers_left (Refused r) m k = k
 
 -- THE MAP'S MEMORY after a build of the order file s with lent slots l, where it held the numbers k
-unfoldable pub memoryAfter : ℕ → List ℕ → List ℕ → List ℕ → List ℕ
-memoryAfter p s l k = numbersLeft (reportOf p s l) (mapLeft p s l) k
+unfoldable pub memory_after : ℕ → List ℕ → List ℕ → List ℕ → List ℕ
+memory_after p s l k = numbers_left (report_of p s l) (map_left p s l) k
 
 -- the number, and how many slots are used
-abbrev pub plainLate : After → WharfthrumLate
-plainLate a = record { number = lateNumber a.answer; count = a.count }
+abbrev pub plain_late : After → WharfthrumLate
+plain_late a = record { number = late_number a.answer; count = a.count }

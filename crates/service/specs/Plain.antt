@@ -3,21 +3,21 @@
 use Rattle.std.specs.Prelude.{ℕ, Float}
 use Rattle.sheet.specs.declared.Share.{Share}
 use Rattle.sheet.specs.declared.Share.TheVariants.{NoFree, Of}
-use Rattle.sheet.specs.Nearest.{plusZero}
+use Rattle.sheet.specs.Nearest.{plus_zero}
 use Rattle.startup.specs.declared.Report.{Report}
 use Rattle.startup.specs.declared.Report.TheVariants.{Done, Refused}
-use Rattle.startup.specs.Verdict.{refusalNumber}
+use Rattle.startup.specs.Verdict.{refusal_number}
 use Rattle.service.specs.declared.WharfthrumReport.{WharfthrumReport}
 
 -- "The share is either none or a double": 0 or 1 says which
-abbrev pub hasShare : Share → ℕ
-hasShare NoFree = 0
-hasShare (Of x) = 1
+abbrev pub has_share : Share → ℕ
+has_share NoFree = 0
+has_share (Of x) = 1
 
 -- the double, and +0 where there is none
-abbrev pub shareFloat : Share → Float
-shareFloat NoFree = plusZero
-shareFloat (Of x) = x
+abbrev pub share_float : Share → Float
+share_float NoFree = plus_zero
+share_float (Of x) = x
 
 -- "0 is done." A refusal has its number, and 0 in every other field
 abbrev pub plain_of : Report → WharfthrumReport
@@ -27,8 +27,8 @@ plain_of (Done n sheet) =
       count = n;
       free = sheet.free;
       usable = sheet.usable;
-      has_share = hasShare sheet.share;
-      share = shareFloat sheet.share;
+      has_share = has_share sheet.share;
+      share = share_float sheet.share;
     }
 plain_of (Refused r) =
-    record { number = refusalNumber r; count = 0; free = 0; usable = 0; has_share = 0; share = plusZero }
+    record { number = refusal_number r; count = 0; free = 0; usable = 0; has_share = 0; share = plus_zero }

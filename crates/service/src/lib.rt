@@ -1,14 +1,14 @@
 // The build for a web service: calls that C and Rust can make. What is lent arrives as a pointer and a length.
 ghost use Rattle.std.specs.Prelude.{◌≡◌, replicate};
-ghost use Rattle.startup.specs.Report.{reportNumber, reportOf, slotsAfter};
-ghost use Rattle.report_text.specs.Text.{reportText};
+ghost use Rattle.startup.specs.Report.{report_number, report_of, slots_after};
+ghost use Rattle.report_text.specs.Text.{report_text};
 ghost use Rattle.report_text.specs.Writing.{Writes};
 ghost use Rattle.entry.specs.Claim.{claim};
 ghost use Rattle.memory.specs.Made.{Made};
-ghost use Rattle.late_claim.specs.Late.{lateOf};
-ghost use Rattle.map_numbers.specs.Numbers.{mapIn, numbersOf};
-ghost use Rattle.service.specs.Plain.{hasShare, shareFloat, plain_of};
-ghost use Rattle.service.specs.Late.{memoryAfter, plainLate};
+ghost use Rattle.late_claim.specs.Late.{late_of};
+ghost use Rattle.map_numbers.specs.Numbers.{map_in, numbers_of};
+ghost use Rattle.service.specs.Plain.{has_share, share_float, plain_of};
+ghost use Rattle.service.specs.Late.{memory_after, plain_late};
 
 use sheet::Share;
 use startup::Report;
@@ -36,7 +36,7 @@ pub struct WharfthrumLate {
 
 // Whether there is a share.
 fn has_share(share: Share) -> u64
-    ensures { result ≡ hasShare share }
+    ensures { result ≡ has_share share }
 {
     match share {
         Share::NoFree => 0,
@@ -46,7 +46,7 @@ fn has_share(share: Share) -> u64
 
 // The share, or 0.0 where there is none.
 fn share_or_zero(share: Share) -> f64
-    ensures { result ≡ shareFloat share }
+    ensures { result ≡ share_float share }
 {
     match share {
         Share::NoFree => 0.0,
@@ -84,8 +84,8 @@ fn plain(report: Report) -> WharfthrumReport
 // Builds the area table of an order file in the lent slots, two numbers each, and answers in plain fields. A refusal writes nothing.
 #[unsafe(no_mangle)]
 pub extern "C" fn wharfthrum_build(file: &[u8], slots: &mut [u64]) -> WharfthrumReport
-    ensures value { result ≡ plain_of (reportOf 4096 file.now slots.old) }
-    ensures slots_after { slots.new ≡ slotsAfter 4096 file.now slots.old }
+    ensures value { result ≡ plain_of (report_of 4096 file.now slots.old) }
+    ensures slots_after { slots.new ≡ slots_after 4096 file.now slots.old }
 {
     plain(startup::init(file, slots))
 }
@@ -97,8 +97,8 @@ pub extern "C" fn wharfthrum_report(
     slots: &mut [u64; 1024],
     text: &mut [u8; 17500],
 ) -> usize
-    ensures writes { Writes text.old 0 (reportText 4096 file.now slots.old) text.new result }
-    ensures slots_after { slots.new ≡ slotsAfter 4096 file.now slots.old }
+    ensures writes { Writes text.old 0 (report_text 4096 file.now slots.old) text.new result }
+    ensures slots_after { slots.new ≡ slots_after 4096 file.now slots.old }
 {
     report_text::report(file, slots, text)
 }
@@ -106,7 +106,7 @@ pub extern "C" fn wharfthrum_report(
 // The number that an order file is answered with under 512 slots, for a form that only checks it.
 #[unsafe(no_mangle)]
 pub extern "C" fn wharfthrum_number(file: &[u8]) -> u64
-    ensures { result ≡ reportNumber (reportOf 4096 file.now (replicate 1024 0)) }
+    ensures { result ≡ report_number (report_of 4096 file.now (replicate 1024 0)) }
 {
     let mut slots = [0u64; 1024];
     let report = startup::init(file, &mut slots);
@@ -120,9 +120,9 @@ pub extern "C" fn wharfthrum_build_map(
     slots: &mut [u64],
     map: &mut [u64; 1537],
 ) -> WharfthrumReport
-    ensures value { result ≡ plain_of (reportOf 4096 file.now slots.old) }
-    ensures slots_after { slots.new ≡ slotsAfter 4096 file.now slots.old }
-    ensures map_after { map.new ≡ memoryAfter 4096 file.now slots.old map.old }
+    ensures value { result ≡ plain_of (report_of 4096 file.now slots.old) }
+    ensures slots_after { slots.new ≡ slots_after 4096 file.now slots.old }
+    ensures map_after { map.new ≡ memory_after 4096 file.now slots.old map.old }
 {
     let start = startup::init_map(file, slots);
     let report = start.report;
@@ -144,10 +144,10 @@ pub extern "C" fn wharfthrum_claim_late(
     slots: &mut [u64],
     count: usize,
 ) -> WharfthrumLate
-    requires { Made 4096 (mapIn map.old) }
-    ensures value { result ≡ plainLate (lateOf 4096 (mapIn map.old) (claim base size kind) count slots.old) }
-    ensures slots_after { slots.new ≡ (lateOf 4096 (mapIn map.old) (claim base size kind) count slots.old).table }
-    ensures map_after { map.new ≡ numbersOf (lateOf 4096 (mapIn map.old) (claim base size kind) count slots.old).map }
+    requires { Made 4096 (map_in map.old) }
+    ensures value { result ≡ plain_late (late_of 4096 (map_in map.old) (claim base size kind) count slots.old) }
+    ensures slots_after { slots.new ≡ (late_of 4096 (map_in map.old) (claim base size kind) count slots.old).table }
+    ensures map_after { map.new ≡ numbers_of (late_of 4096 (map_in map.old) (claim base size kind) count slots.old).map }
 {
     let late = late_claim::claim_late(map_numbers::load(map), base, size, kind, slots, count);
     let answer = late.answer;

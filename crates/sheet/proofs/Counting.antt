@@ -14,36 +14,36 @@ use Rattle.entry.specs.declared.FoundEntry.TheVariants.{Entry, Nothing}
 use Rattle.entry.specs.Entry.{entry, overlap, meet}
 use Rattle.entry.proofs.EntryLaws.{Meets, some, none, meets}
 use Rattle.memory.specs.declared.MemoryMap.{MemoryMap}
-use Rattle.memory.specs.Map.{slotsAs, at}
-use Rattle.listing.specs.Listing.{entriesFrom, those, wants}
+use Rattle.memory.specs.Map.{slots_as, at}
+use Rattle.listing.specs.Listing.{entries_from, those, wants}
 use Rattle.areas.specs.declared.Limit.{Limit}
-use Rattle.areas.specs.Areas.{limitOf, freeOf}
-use Rattle.areas.proofs.Those.{those-takes, those-skips}
-use Rattle.sheet.specs.Sheet.{pagesOf, freeIn, freePages}
+use Rattle.areas.specs.Areas.{limit_of, free_of}
+use Rattle.areas.proofs.Those.{those_takes, those_skips}
+use Rattle.sheet.specs.Sheet.{pages_of, free_in, free_pages}
 
 -- what an entry and the limits share is nonempty
-pub meet-some : (a b c : MemoryEntry) → Entry c ≡ meet a b → c.start < c.end
-meet-some a b c e = go (meet a b) (meets a b) e
+pub meet_some : (a b c : MemoryEntry) → Entry c ≡ meet a b → c.start < c.end
+meet_some a b c e = go (meet a b) (meets a b) e
   where
     go : (r : FoundEntry) → Meets a b r → Entry c ≡ r → c.start < c.end
     go r (some h) f = let same : c ≡ overlap a b = cc in rw same h
     go r (none h) f = absurd (let z : ◌≡◌ {A = ℕ} 0 1 = cc in omega arith)
 
 -- no range has more pages, where a page has 4,096 bytes or more
-pub pages-few : (p : ℕ) → 4096 ≤ p → (from to : ℕ) → to < 2 ^ 64 → (to - from) / p ≤ 2 ^ 52
-pages-few p large from to h =
+pub pages_few : (p : ℕ) → 4096 ≤ p → (from to : ℕ) → to < 2 ^ 64 → (to - from) / p ≤ 2 ^ 52
+pages_few p large from to h =
     let all : 2 ^ 52 * 4096 ≤ 2 ^ 52 * p = mul-le-mul_left (2 ^ 52) large in
     let few : (to - from) / p < suc (2 ^ 52) = (div-lt_iff_lt-mul {k = p} (omega arith)).1 (rw suc-mul (omega arith)) in
     omega arith
 
 -- the Free pages of the entries from slot i up to slot n
 pub togo : ℕ → MemoryEntry → List ℕ → List ℕ → List ℕ → ℕ → ℕ → ℕ
-togo p limits ss es ks n i = freeIn p limits (freeOf (entriesFrom (slotsAs ss es ks) (n - i) i))
+togo p limits ss es ks n i = free_in p limits (free_of (entries_from (slots_as ss es ks) (n - i) i))
 
 pub record Counting (p : ℕ) (limits : MemoryEntry) (ss es ks : List ℕ) (n pages i : ℕ) : Type 0 where
   pub slot : i ≤ n
   pub few : pages ≤ i * 2 ^ 52
-  pub sum : pages + togo p limits ss es ks n i ≡ freeIn p limits (freeOf (entriesFrom (slotsAs ss es ks) n 0))
+  pub sum : pages + togo p limits ss es ks n i ≡ free_in p limits (free_of (entries_from (slots_as ss es ks) n 0))
 
 pub begins : (p : ℕ) (limits : MemoryEntry) (ss es ks : List ℕ) (n : ℕ) → Counting p limits ss es ks n 0 0
 unfolding togo
@@ -53,16 +53,16 @@ begins p limits ss es ks n =
 
 module _ {p : ℕ} {limits : MemoryEntry} {ss es ks : List ℕ} {n pages i : ℕ} (inv : Counting p limits ss es ks n pages i) where
   none_left : n ≤ i → togo p limits ss es ks n i ≡ 0
-  unfolding togo freeIn those entriesFrom
+  unfolding togo free_in those entries_from
   none_left h = let z : n - i ≡ 0 = omega arith in rw z
 
   -- after the last entry
-  pub ends : n ≤ i → pages ≡ freeIn p limits (freeOf (entriesFrom (slotsAs ss es ks) n 0))
+  pub ends : n ≤ i → pages ≡ free_in p limits (free_of (entries_from (slots_as ss es ks) n 0))
   ends h = omega (arith, none_left h, inv.sum)
 
   module _ (lt : i < n) where
-    next : entriesFrom (slotsAs ss es ks) (n - i) i ≡ at (slotsAs ss es ks) i ∷ entriesFrom (slotsAs ss es ks) (n - (i + 1)) (i + 1)
-    unfolding entriesFrom
+    next : entries_from (slots_as ss es ks) (n - i) i ≡ at (slots_as ss es ks) i ∷ entries_from (slots_as ss es ks) (n - (i + 1)) (i + 1)
+    unfolding entries_from
     next = let s : n - i ≡ suc (n - (i + 1)) = omega arith in rw s
 
     -- where the entry at i has so many pages to count
@@ -73,12 +73,12 @@ module _ {p : ℕ} {limits : MemoryEntry} {ss es ks : List ℕ} {n pages i : ℕ
     -- an entry that is not Free
     pub passes : {pages' : ℕ} → (get_or ks i 0 ≡ 1 → ⊥) → pages' ≡ pages → Counting p limits ss es ks n pages' (i + 1)
     unfolding togo at
-    passes f e = step 0 (rw (next, those-skips (wants 1 true) (at (slotsAs ss es ks) i) (entriesFrom (slotsAs ss es ks) (n - (i + 1)) (i + 1)) (ne_eqb (get_or ks i 0) 1 f)) (omega arith)) (omega arith) (omega arith)
+    passes f e = step 0 (rw (next, those_skips (wants 1 true) (at (slots_as ss es ks) i) (entries_from (slots_as ss es ks) (n - (i + 1)) (i + 1)) (ne_eqb (get_or ks i 0) 1 f)) (omega arith)) (omega arith) (omega arith)
 
     module _ (f : get_or ks i 0 ≡ 1) where
-      takes : (r : FoundEntry) → r ≡ meet (entry (get_or ss i 0) (get_or es i 0) 1) limits → togo p limits ss es ks n i ≡ pagesOf p r + togo p limits ss es ks n (i + 1)
-      unfolding togo freeIn at
-      takes r is = rw (next, those-takes (wants 1 true) (at (slotsAs ss es ks) i) (entriesFrom (slotsAs ss es ks) (n - (i + 1)) (i + 1)) (eq-eqb (get_or ks i 0) 1 f), f, ← is)
+      takes : (r : FoundEntry) → r ≡ meet (entry (get_or ss i 0) (get_or es i 0) 1) limits → togo p limits ss es ks n i ≡ pages_of p r + togo p limits ss es ks n (i + 1)
+      unfolding togo free_in at
+      takes r is = rw (next, those_takes (wants 1 true) (at (slots_as ss es ks) i) (entries_from (slots_as ss es ks) (n - (i + 1)) (i + 1)) (eq-eqb (get_or ks i 0) 1 f), f, ← is)
 
       -- a Free entry outside the limits
       pub misses : {pages' : ℕ} → Nothing ≡ meet (entry (get_or ss i 0) (get_or es i 0) 1) limits → pages' ≡ pages → Counting p limits ss es ks n pages' (i + 1)
@@ -90,7 +90,7 @@ module _ {p : ℕ} {limits : MemoryEntry} {ss es ks : List ℕ} {n pages i : ℕ
       adds part is h e = step ((part.end - part.start) / p) (takes (Entry part) is) h e
 
 -- the map's own
-pub counted-all : {p : ℕ} (m : MemoryMap) (low high : Limit) {limits : MemoryEntry} → limits ≡ limitOf p low high → {pages i : ℕ}
-    → Counting p limits m.starts m.ends m.kinds m.size pages i → m.size ≤ i → pages ≡ freePages p low high m
-unfolding freePages
-counted-all m low high is inv h = rw (← is) (ends inv h)
+pub counted_all : {p : ℕ} (m : MemoryMap) (low high : Limit) {limits : MemoryEntry} → limits ≡ limit_of p low high → {pages i : ℕ}
+    → Counting p limits m.starts m.ends m.kinds m.size pages i → m.size ≤ i → pages ≡ free_pages p low high m
+unfolding free_pages
+counted_all m low high is inv h = rw (← is) (ends inv h)

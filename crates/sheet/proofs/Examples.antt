@@ -4,21 +4,21 @@ use lib.Ieee.{to_bits}
 use Rattle.sheet.specs.declared.ShareBits.TheVariants.{NoBits, Bits}
 use Rattle.sheet.specs.Share.{quotient, counted, share_of, bits_of}
 
-pub case-s : bits_of (share_of 2048 1534) ≡ Bits 0x3fe7_f800_0000_0000
+pub case_s : bits_of (share_of 2048 1534) ≡ Bits 0x3fe7_f800_0000_0000
 unfolding quotient counted to_bits
-case-s = refl
+case_s = refl
 
 pub none_free : bits_of (share_of 0 0) ≡ NoBits
 none_free = refl
 
 -- positive zero
-pub none-usable : bits_of (share_of 5 0) ≡ Bits 0
+pub none_usable : bits_of (share_of 5 0) ≡ Bits 0
 unfolding quotient counted to_bits
-none-usable = refl
+none_usable = refl
 
-pub all-usable : bits_of (share_of 7 7) ≡ Bits 0x3ff0_0000_0000_0000
+pub all_usable : bits_of (share_of 7 7) ≡ Bits 0x3ff0_0000_0000_0000
 unfolding quotient counted to_bits
-all-usable = refl
+all_usable = refl
 
 -- rounded down; `fifth`, below, is rounded up
 pub third : bits_of (share_of 3 1) ≡ Bits 0x3fd5_5555_5555_5555

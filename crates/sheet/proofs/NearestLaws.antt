@@ -20,7 +20,7 @@ use lib.Ieee.Order.{drop, kept}
 use lib.Ieee.Positive.{first_pos}
 use lib.Ieee.Scale.{round_same, round_val, normal_of_fraction, overflow}
 use Rattle.sheet.specs.Share.{quotient}
-use Rattle.sheet.specs.Nearest.{distance, plusZero, Nearest}
+use Rattle.sheet.specs.Nearest.{distance, plus_zero, Nearest}
 
 -- ── A fraction rounded to the nearest whole number is within a half of it ──
 
@@ -41,25 +41,25 @@ cmp a b = go (compare a b) (leb→le a b) (nleb→lt a b) (eqb→eq a b) (λ (e 
     go Ordering.eq h k e n = e tt
     go Ordering.gt h k e n = k tt
 
-rem-two : (w : ℕ) → w % 2 ≤ 1
-rem-two w = omega arith
+rem_two : (w : ℕ) → w % 2 ≤ 1
+rem_two w = omega arith
 
 near_by : (w r b a : ℕ) (o : Ordering) → Cmp o (r * 2) b → w * b + r ≡ a → r < b → Within (nearest w o * b) a b
 near_by w r b a Ordering.lt x e l = (omega arith, omega arith)
 near_by w r b a Ordering.eq x e l =
     let s : (w + w % 2) * b ≡ w * b + w % 2 * b = add-mul w (w % 2) b in
-    let t : w % 2 * b ≤ b = le_trans (mul-le-mul_right b (rem-two w)) (le_of_eq (one-mul b)) in
+    let t : w % 2 * b ≤ b = le_trans (mul-le-mul_right b (rem_two w)) (le_of_eq (one-mul b)) in
     (omega arith, omega arith)
 near_by w r b a Ordering.gt x e l =
     let s : suc w * b ≡ w * b + b = suc-mul w b in
     (omega arith, omega arith)
 
-closest-near : (a b : ℕ) → 0 < b → Within (closest a b * b) a b
-closest-near a b B = near_by (a / b) (a % b) b a (compare (a % b * 2) b) (cmp (a % b * 2) b) (div-add-mod' a b) (mod-lt a B)
+closest_near : (a b : ℕ) → 0 < b → Within (closest a b * b) a b
+closest_near a b B = near_by (a / b) (a % b) b a (compare (a % b * 2) b) (cmp (a % b * 2) b) (div-add-mod' a b) (mod-lt a B)
 
 -- a factor u above 0 that all three have goes out
-within-cancel : (x y c u : ℕ) → 0 < u → Within (x * u) (y * u) (c * u) → Within x y c
-within-cancel x y c u U w = (side x y w.0, side y x w.1)
+within_cancel : (x y c u : ℕ) → 0 < u → Within (x * u) (y * u) (c * u) → Within x y c
+within_cancel x y c u U w = (side x y w.0, side y x w.1)
   where
     side : (x y : ℕ) → 2 * (x * u) ≤ 2 * (y * u) + c * u → 2 * x ≤ 2 * y + c
     side x y h =
@@ -67,8 +67,8 @@ within-cancel x y c u U w = (side x y w.0, side y x w.1)
         (le_trans (le_of_eq (mul_assoc 2 x u)) (le_trans h (le_of_eq (ap (λ (z : ℕ). z + c * u) (sym (mul_assoc 2 y u)) ∙ sym (add-mul (2 * y) c u)))))
         U
 
-within-distance : (a b c : ℕ) → Within a b c → 2 * distance a b ≤ c
-within-distance a b c w = omega arith
+within_distance : (a b c : ℕ) → Within a b c → 2 * distance a b ≤ c
+within_distance a b c w = omega arith
 
 -- ── What the law uses of a format, besides `two` and `reach`: the least quotient, 1 / 2 ^ prec, is in the normal range ──
 deep : (f : Format) → prec f - 1 + prec f ≤ low f
@@ -105,17 +105,17 @@ shift p j P J = omega arith
 less : (p : ℕ) → 2 ≤ p → p - 1 < p
 less p P = omega arith
 
-pos-of-two : (p : ℕ) → 2 ≤ p → 0 < p
-pos-of-two p P = omega arith
+pos_of_two : (p : ℕ) → 2 ≤ p → 0 < p
+pos_of_two p P = omega arith
 
-pred-suc : (p : ℕ) → 0 < p → p ≡ 1 + (p - 1)
-pred-suc p P = omega arith
+pred_suc : (p : ℕ) → 0 < p → p ≡ 1 + (p - 1)
+pred_suc p P = omega arith
 
 twice : (p : ℕ) → 0 < p → 2 ^ p ≡ 2 * 2 ^ (p - 1)
-twice p P = ap (λ (x : ℕ). 2 ^ x) (pred-suc p P) ∙ pow-add 2 1 (p - 1)
+twice p P = ap (λ (x : ℕ). 2 ^ x) (pred_suc p P) ∙ pow-add 2 1 (p - 1)
 
-half-within : (x y c : ℕ) → Within (2 * x) (2 * y) c → Within x y c
-half-within x y c w = (omega arith, omega arith)
+half_within : (x y c : ℕ) → Within (2 * x) (2 * y) c → Within x y c
+half_within x y c w = (omega arith, omega arith)
 
 module _ (f : Format) (a c : ℕ) (A : 0 < a) (h : a < 2 ^ (prec f - 1)) (some : 0 < c) (C : c ≤ 2 ^ prec f) where
   -- a / c is in the normal range, and below 2 ^ (prec - 1)
@@ -133,15 +133,15 @@ module _ (f : Format) (a c : ℕ) (A : 0 < a) (h : a < 2 ^ (prec f - 1)) (some :
   spare : suc (drop (prec f) (a * 2 ^ low f) c) ≤ low f
   spare = room (size (a * 2 ^ low f / c)) (prec f) (low f) (two f) normal at_most
 
-  kept-le : kept (prec f) (a * 2 ^ low f) c ≤ 2 ^ prec f
-  kept-le =
+  kept_le : kept (prec f) (a * 2 ^ low f) c ≤ 2 ^ prec f
+  kept_le =
       let n = a * 2 ^ low f in
       let d = drop (prec f) n c in
       let u = c * 2 ^ d in
       le_trans (nearest-le (n / u) (compare (n % u * 2) u)) (subst (λ (x : ℕ). x < 2 ^ prec f) (div-div-eq-div-mul n c (2 ^ d)) (kept-lt (prec f) (n / c)))
 
-  kept-ge : 2 ^ (prec f - 1) ≤ kept (prec f) (a * 2 ^ low f) c
-  kept-ge =
+  kept_ge : 2 ^ (prec f - 1) ≤ kept (prec f) (a * 2 ^ low f) c
+  kept_ge =
       let n = a * 2 ^ low f in
       let p = prec f in
       let d = drop p n c in
@@ -153,7 +153,7 @@ module _ (f : Format) (a c : ℕ) (A : 0 < a) (h : a < 2 ^ (prec f - 1)) (some :
   fine : kept (prec f) (a * 2 ^ low f) c * 2 ^ drop (prec f) (a * 2 ^ low f) c < overflow f
   fine =
       let d = drop (prec f) (a * 2 ^ low f) c in
-      lt_of_le_of_lt (le_trans (mul-le-mul_right (2 ^ d) kept-le) (le_of_eq (sym (pow-add 2 (prec f) d))))
+      lt_of_le_of_lt (le_trans (mul-le-mul_right (2 ^ d) kept_le) (le_of_eq (sym (pow-add 2 (prec f) d))))
       (pow-lt (under (prec f) (size (a * 2 ^ low f / c)) (low f) (emax f) (two f) (reach f) normal at_most))
     where
       under : (p z l e : ℕ) → 2 ≤ p → p ≤ suc e → p ≤ z → z ≤ p - 1 + l → p + (z - p) < l + suc e
@@ -167,7 +167,7 @@ module _ (f : Format) (a c : ℕ) (A : 0 < a) (h : a < 2 ^ (prec f - 1)) (some :
 
   close : (q d j : ℕ) → d + j ≡ low f → Within (q * (c * 2 ^ d)) (a * 2 ^ low f) (c * 2 ^ d) → Within (q * c) (a * 2 ^ j) c
   close q d j e w =
-      within-cancel (q * c) (a * 2 ^ j) c (2 ^ d) (pow_pos d)
+      within_cancel (q * c) (a * 2 ^ j) c (2 ^ d) (pow_pos d)
       (subst (λ (x : ℕ). Within x (a * 2 ^ j * 2 ^ d) (c * 2 ^ d)) (sym (mul_assoc q c (2 ^ d)))
       (subst (λ (x : ℕ). Within (q * (c * 2 ^ d)) x (c * 2 ^ d))
       (ap (λ (x : ℕ). a * x) (ap (λ (x : ℕ). 2 ^ x) (sym e) ∙ pow-add 2 d j ∙ mul_comm (2 ^ d) (2 ^ j)) ∙ sym (mul_assoc a (2 ^ j) (2 ^ d))) w))
@@ -188,45 +188,45 @@ module _ (f : Format) (a c : ℕ) (A : 0 < a) (h : a < 2 ^ (prec f - 1)) (some :
           full = le_refl (2 ^ (p - 1));
           kept = pow-lt (less p (two f));
           near =
-              within-distance (2 ^ (p - 1) * c) (a * 2 ^ (j - 1)) c
-              (half-within (2 ^ (p - 1) * c) (a * 2 ^ (j - 1)) c
-              (subst (λ (x : ℕ). Within x (2 * (a * 2 ^ (j - 1))) c) (ap (λ (x : ℕ). x * c) (twice p (pos-of-two p (two f))) ∙ mul_assoc 2 (2 ^ (p - 1)) c)
+              within_distance (2 ^ (p - 1) * c) (a * 2 ^ (j - 1)) c
+              (half_within (2 ^ (p - 1) * c) (a * 2 ^ (j - 1)) c
+              (subst (λ (x : ℕ). Within x (2 * (a * 2 ^ (j - 1))) c) (ap (λ (x : ℕ). x * c) (twice p (pos_of_two p (two f))) ∙ mul_assoc 2 (2 ^ (p - 1)) c)
               (subst (λ (x : ℕ). Within (2 ^ p * c) x c) (ap (λ (x : ℕ). a * x) (twice j J) ∙ mul_left_comm a 2 (2 ^ (j - 1))) w')));
           normal = le_trans (sub-le j 1) J';
         }
-    | inr s ↦ record { m = q; k = j; value = v; full = g; kept = s; near = within-distance (q * c) (a * 2 ^ j) c w; normal = J' }
+    | inr s ↦ record { m = q; k = j; value = v; full = g; kept = s; near = within_distance (q * c) (a * 2 ^ j) c w; normal = J' }
   ]
 
-  pub round-near : Nearest f a c (round f false a c)
-  round-near =
+  pub round_near : Nearest f a c (round f false a c)
+  round_near =
       let n = a * 2 ^ low f in
       let d = drop (prec f) n c in
       let j = low f - d in
       let q = kept (prec f) n c in
       let e : d + j ≡ low f = both d (low f) spare in
-      whole q j (left d (low f) spare) (sub-le (low f) d) kept-ge kept-le (at q d j e (round_val f a c fine)) (close q d j e (closest-near n (c * 2 ^ d) (mul-pos some (pow_pos d))))
+      whole q j (left d (low f) spare) (sub-le (low f) d) kept_ge kept_le (at q d j e (round_val f a c fine)) (close q d j e (closest_near n (c * 2 ^ d) (mul-pos some (pow_pos d))))
 
 -- ── The division of two whole numbers rounds their fraction ──
 
 no_zero : (n : ℕ) → 0 < n → T (not (eqb n 0))
 no_zero n h = not_T (eqb n 0) (λ (t : T (eqb n 0)). lt_irrefl 0 (subst (λ (x : ℕ). 0 < x) (eqb→eq n 0 t) h))
 
-pub div-at : (f : Format) (x y : Float) (a b c d : ℕ) → 0 < b → 0 < c → 0 < d → HasValue x false a b → HasValue y false c d → div f x y ≡ round f false (a * d) (c * b)
+pub div_at : (f : Format) (x y : Float) (a b c d : ℕ) → 0 < b → 0 < c → 0 < d → HasValue x false a b → HasValue y false c d → div f x y ≡ round f false (a * d) (c * b)
 unfolding div
-div-at f nan y a b c d B C D v w = absurd v
-div-at f (inf s) y a b c d B C D v w = absurd v
-div-at f (fin true m e) y a b c d B C D v w = absurd (true≢false v.0)
-div-at f (fin false m e) nan a b c d B C D v w = absurd w
-div-at f (fin false m e) (inf t) a b c d B C D v w = absurd w
-div-at f (fin false m e) (fin true n g) a b c d B C D v w = absurd (true≢false w.0)
-div-at f (fin false m e) (fin false n g) a b c d B C D v w =
+div_at f nan y a b c d B C D v w = absurd v
+div_at f (inf s) y a b c d B C D v w = absurd v
+div_at f (fin true m e) y a b c d B C D v w = absurd (true≢false v.0)
+div_at f (fin false m e) nan a b c d B C D v w = absurd w
+div_at f (fin false m e) (inf t) a b c d B C D v w = absurd w
+div_at f (fin false m e) (fin true n g) a b c d B C D v w = absurd (true≢false w.0)
+div_at f (fin false m e) (fin false n g) a b c d B C D v w =
     let N : 0 < n * up g = first_pos (n * up g) d (subst (λ (z : ℕ). 0 < z) (sym w.1) (mul-pos C (down_pos g))) in
     let l : m * up e * b * (c * down g) ≡ a * down e * (n * up g * d) = ap (λ (z : ℕ). z * (c * down g)) v.1 ∙ ap (λ (z : ℕ). a * down e * z) (sym w.1) in
     cond_no (eqb n 0) _ (round f false (m * up e * down g) (n * up g * down e)) (no_zero n (first_pos n (up g) N))
     ∙ round_same f false (m * up e * down g) (n * up g * down e) (a * d) (c * b) (mul-pos N (down_pos e)) (mul-pos C B)
     (simp (mul_assoc, mul_comm, mul_left_comm) (simp (mul_assoc, mul_comm, mul_left_comm) at l))
 
-at_zero : (f : Format) → round f false 0 1 ≡ plusZero
+at_zero : (f : Format) → round f false 0 1 ≡ plus_zero
 unfolding round
 at_zero binary32 = refl
 at_zero binary64 = refl
@@ -238,12 +238,12 @@ module _ (f : Format) (a c : ℕ) (C : 0 < c) (h : a < 2 ^ (prec f - 1)) (l : c 
   pub quotient_is : quotient f a c ≡ round f false a c
   unfolding quotient of_int
   quotient_is =
-      div-at f (round f false a 1) (round f false c 1) a 1 c 1 (zero-lt-suc 0) C (zero-lt-suc 0) (round_whole f false a (fit h)) (round_whole f false c (fit l))
+      div_at f (round f false a 1) (round f false c 1) a 1 c 1 (zero-lt-suc 0) C (zero-lt-suc 0) (round_whole f false a (fit h)) (round_whole f false c (fit l))
       ∙ ap (λ (x : ℕ). round f false x (c * 1)) (mul-one a)
       ∙ ap (λ (x : ℕ). round f false a x) (mul-one c)
 
-  pub quotient-near : 0 < a → Nearest f a c (quotient f a c)
-  quotient-near A = subst (Nearest f a c) (sym quotient_is) (round-near f a c A h C (fit l))
+  pub quotient_near : 0 < a → Nearest f a c (quotient f a c)
+  quotient_near A = subst (Nearest f a c) (sym quotient_is) (round_near f a c A h C (fit l))
 
-  pub quotient-zero : a ≡ 0 → quotient f a c ≡ plusZero
-  quotient-zero z = quotient_is ∙ ap (λ (x : ℕ). round f false x c) z ∙ round_same f false 0 c 0 1 C (zero-lt-suc 0) (zero-mul 1 ∙ sym (zero-mul c)) ∙ at_zero f
+  pub quotient_zero : a ≡ 0 → quotient f a c ≡ plus_zero
+  quotient_zero z = quotient_is ∙ ap (λ (x : ℕ). round f false x c) z ∙ round_same f false 0 c 0 1 C (zero-lt-suc 0) (zero-mul 1 ∙ sym (zero-mul c)) ∙ at_zero f

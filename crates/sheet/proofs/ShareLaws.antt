@@ -12,18 +12,18 @@ use lib.Ieee.{Float, nan, inf, fin, binary64, in_float, is_nan}
 use lib.Ieee.Exact.{HasValue}
 use Rattle.sheet.specs.declared.Share.TheVariants.{NoFree, Of}
 use Rattle.sheet.specs.Share.{quotient, counted, share_of}
-use Rattle.sheet.specs.Nearest.{plusZero, Nearest}
-use Rattle.sheet.proofs.NearestLaws.{quotient-near, quotient-zero}
+use Rattle.sheet.specs.Nearest.{plus_zero, Nearest}
+use Rattle.sheet.proofs.NearestLaws.{quotient_near, quotient_zero}
 
 -- ── A count ──
 
-pub counted-few : (n : ℕ) → counted n < 2 ^ 52
+pub counted_few : (n : ℕ) → counted n < 2 ^ 52
 unfolding counted
-counted-few n = omega arith
+counted_few n = omega arith
 
-pub counted-pos : (n : ℕ) → 0 < n → 0 < counted n
+pub counted_pos : (n : ℕ) → 0 < n → 0 < counted n
 unfolding counted
-counted-pos n h = omega arith
+counted_pos n h = omega arith
 
 pub counted_same : (n : ℕ) → n < 2 ^ 52 → counted n ≡ n
 unfolding counted
@@ -32,54 +32,54 @@ counted_same n h = omega arith
 -- a number that is a count becomes a float with nothing lost
 pub exact : (n m : ℕ) → m ≡ counted n → T (in_float binary64 (pos m))
 unfolding in_float
-exact n m e = le→leb m (2 ^ 53) (omega (arith, counted-few n))
+exact n m e = le→leb m (2 ^ 53) (omega (arith, counted_few n))
 
 -- ── The share by cases ──
 
-pub share-some : (free usable : ℕ) → 0 < free → share_of free usable ≡ Of (quotient binary64 (counted usable) (counted free))
-share-some zero usable h = absurd (omega arith)
-share-some (suc free) usable h = refl
+pub share_some : (free usable : ℕ) → 0 < free → share_of free usable ≡ Of (quotient binary64 (counted usable) (counted free))
+share_some zero usable h = absurd (omega arith)
+share_some (suc free) usable h = refl
 
 -- of counts, both below 2 ^ 52
-share-whole : (free usable : ℕ) → 0 < free → free < 2 ^ 52 → usable < 2 ^ 52 → share_of free usable ≡ Of (quotient binary64 usable free)
-share-whole free usable h f u = share-some free usable h ∙ ap₂ (λ (a c : ℕ). Of (quotient binary64 a c)) (counted_same usable u) (counted_same free f)
+share_whole : (free usable : ℕ) → 0 < free → free < 2 ^ 52 → usable < 2 ^ 52 → share_of free usable ≡ Of (quotient binary64 usable free)
+share_whole free usable h f u = share_some free usable h ∙ ap₂ (λ (a c : ℕ). Of (quotient binary64 a c)) (counted_same usable u) (counted_same free f)
 
-pub share-none : (usable : ℕ) → share_of 0 usable ≡ NoFree
-share-none usable = refl
+pub share_none : (usable : ℕ) → share_of 0 usable ≡ NoFree
+share_none usable = refl
 
-pub share-zero : (free : ℕ) → 0 < free → free < 2 ^ 52 → share_of free 0 ≡ Of plusZero
-share-zero free h f = share-whole free 0 h f (omega arith) ∙ ap Of (quotient-zero binary64 0 free h (omega arith) f refl)
+pub share_zero : (free : ℕ) → 0 < free → free < 2 ^ 52 → share_of free 0 ≡ Of plus_zero
+share_zero free h f = share_whole free 0 h f (omega arith) ∙ ap Of (quotient_zero binary64 0 free h (omega arith) f refl)
 
-pub share-near : (free usable : ℕ) → 0 < free → free < 2 ^ 52 → 0 < usable → usable < 2 ^ 52
+pub share_near : (free usable : ℕ) → 0 < free → free < 2 ^ 52 → 0 < usable → usable < 2 ^ 52
     → (x : Float) × (share_of free usable ≡ Of x) × Nearest binary64 usable free x
-share-near free usable h f k u = (
+share_near free usable h f k u = (
   quotient binary64 usable free,
-  share-whole free usable h f u,
-  quotient-near binary64 usable free h u f k,
+  share_whole free usable h f u,
+  quotient_near binary64 usable free h u f k,
 )
 
 -- ── The share has bits ──
 
-value-number : (x : Float) (a c : ℕ) → HasValue x false a c → T (not (is_nan x))
+value_number : (x : Float) (a c : ℕ) → HasValue x false a c → T (not (is_nan x))
 unfolding is_nan
-value-number nan a c v = v
-value-number (inf s) a c v = absurd v
-value-number (fin s m e) a c v = tt
+value_number nan a c v = v
+value_number (inf s) a c v = absurd v
+value_number (fin s m e) a c v = tt
 
-zero_number : T (not (is_nan plusZero))
+zero_number : T (not (is_nan plus_zero))
 unfolding is_nan
 zero_number = tt
 
-quotient-number : (a c : ℕ) → 0 < c → a < 2 ^ 52 → c < 2 ^ 52 → T (not (is_nan (quotient binary64 a c)))
-quotient-number a c C h l = elim (eq-zero-or-pos a) [
-  | inl z ↦ subst (λ (x : Float). T (not (is_nan x))) (sym (quotient-zero binary64 a c C h l z)) zero_number
-  | inr p ↦ let r = quotient-near binary64 a c C h l p in value-number (quotient binary64 a c) r.m (2 ^ r.k) r.value
+quotient_number : (a c : ℕ) → 0 < c → a < 2 ^ 52 → c < 2 ^ 52 → T (not (is_nan (quotient binary64 a c)))
+quotient_number a c C h l = elim (eq-zero-or-pos a) [
+  | inl z ↦ subst (λ (x : Float). T (not (is_nan x))) (sym (quotient_zero binary64 a c C h l z)) zero_number
+  | inr p ↦ let r = quotient_near binary64 a c C h l p in value_number (quotient binary64 a c) r.m (2 ^ r.k) r.value
 ]
 
 -- no share of two numbers is a NaN
-pub share-number : (free usable : ℕ) (x : Float) → Of x ≡ share_of free usable → T (not (is_nan x))
-share-number zero usable x e = absurd (let z : ◌≡◌ {A = ℕ} 0 1 = cc in omega arith)
-share-number (suc free) usable x e =
+pub share_number : (free usable : ℕ) (x : Float) → Of x ≡ share_of free usable → T (not (is_nan x))
+share_number zero usable x e = absurd (let z : ◌≡◌ {A = ℕ} 0 1 = cc in omega arith)
+share_number (suc free) usable x e =
     let is : x ≡ quotient binary64 (counted usable) (counted (suc free)) = cc in
     subst (λ (y : Float). T (not (is_nan y))) (sym is)
-    (quotient-number (counted usable) (counted (suc free)) (counted-pos (suc free) (omega arith)) (counted-few usable) (counted-few (suc free)))
+    (quotient_number (counted usable) (counted (suc free)) (counted_pos (suc free) (omega arith)) (counted_few usable) (counted_few (suc free)))

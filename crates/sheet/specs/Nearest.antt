@@ -9,8 +9,8 @@ abbrev pub distance : ℕ → ℕ → ℕ
 distance a b = (a - b) + (b - a)
 
 -- +0
-abbrev pub plusZero : Float
-plusZero = fin false 0 (pos 0)
+abbrev pub plus_zero : Float
+plus_zero = fin false 0 (pos 0)
 
 -- x is m / 2^k with all the digits that the format keeps, and is nearest to usable / free
 pub record Nearest (f : Format) (usable free : ℕ) (x : Float) : Type 0 where

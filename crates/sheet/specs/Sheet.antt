@@ -8,45 +8,45 @@ use Rattle.memory.specs.declared.MemoryMap.{MemoryMap}
 use Rattle.listing.specs.Listing.{held}
 use Rattle.areas.specs.declared.Limit.{Limit}
 use Rattle.areas.specs.Interval.{Interval}
-use Rattle.areas.specs.Areas.{limitOf, freeOf, areasOf}
+use Rattle.areas.specs.Areas.{limit_of, free_of, areas_of}
 use Rattle.sheet.specs.declared.PageSheet.{PageSheet}
 use Rattle.sheet.specs.Share.{share_of}
 
 -- how many pages lie from one address up to another
-abbrev pub pagesIn : ℕ → ℕ → ℕ → ℕ
-pagesIn p from to = (to - from) / p
+abbrev pub pages_in : ℕ → ℕ → ℕ → ℕ
+pages_in p from to = (to - from) / p
 
-abbrev pub pagesOf : ℕ → FoundEntry → ℕ
-pagesOf p (Entry e) = pagesIn p e.start e.end
-pagesOf p Nothing = 0
+abbrev pub pages_of : ℕ → FoundEntry → ℕ
+pages_of p (Entry e) = pages_in p e.start e.end
+pages_of p Nothing = 0
 
 -- "Free pages inside the limits": of each Free entry, cut to the limits
-unfoldable pub freeIn : ℕ → MemoryEntry → List MemoryEntry → ℕ
-freeIn p limits [] = 0
-freeIn p limits (f ∷ fs) = pagesOf p (meet f limits) + freeIn p limits fs
+unfoldable pub free_in : ℕ → MemoryEntry → List MemoryEntry → ℕ
+free_in p limits [] = 0
+free_in p limits (f ∷ fs) = pages_of p (meet f limits) + free_in p limits fs
 
-unfoldable pub freePages : ℕ → Limit → Limit → MemoryMap → ℕ
-freePages p low high m = freeIn p (limitOf p low high) (freeOf (held m))
+unfoldable pub free_pages : ℕ → Limit → Limit → MemoryMap → ℕ
+free_pages p low high m = free_in p (limit_of p low high) (free_of (held m))
 
 -- "usable pages": of the finished areas
-unfoldable pub usableIn : ℕ → List Interval → ℕ
-usableIn p [] = 0
-usableIn p (r ∷ l) = pagesIn p r.lo r.hi + usableIn p l
+unfoldable pub usable_in : ℕ → List Interval → ℕ
+usable_in p [] = 0
+usable_in p (r ∷ l) = pages_in p r.lo r.hi + usable_in p l
 
-abbrev pub sheetOf : ℕ → ℕ → PageSheet
-sheetOf free usable = record { free = free; usable = usable; share = share_of free usable }
+abbrev pub sheet_of : ℕ → ℕ → PageSheet
+sheet_of free usable = record { free = free; usable = usable; share = share_of free usable }
 
 -- the sheet of a map under some limits
-unfoldable pub mapSheet : ℕ → Limit → Limit → MemoryMap → PageSheet
-mapSheet p low high m = sheetOf (freePages p low high m) (usableIn p (areasOf p low high m))
+unfoldable pub map_sheet : ℕ → Limit → Limit → MemoryMap → PageSheet
+map_sheet p low high m = sheet_of (free_pages p low high m) (usable_in p (areas_of p low high m))
 
 -- ── The same from a finished table ──
 
 -- the pages of n areas, base and size, from slot i on, capped
-unfoldable pub slotPages : ℕ → List ℕ → ℕ → ℕ → ℕ
-slotPages p l zero i = 0
-slotPages p l (suc n) i = min (get_or l (i + i + 1) 0 / p + slotPages p l n (i + 1)) (2 ^ 64 - 1)
+unfoldable pub slot_pages : ℕ → List ℕ → ℕ → ℕ → ℕ
+slot_pages p l zero i = 0
+slot_pages p l (suc n) i = min (get_or l (i + i + 1) 0 / p + slot_pages p l n (i + 1)) (2 ^ 64 - 1)
 
 -- n areas, or as many as there are slots
-abbrev pub slotsTo : List ℕ → ℕ → ℕ
-slotsTo l n = min n (length l / 2)
+abbrev pub slots_to : List ℕ → ℕ → ℕ
+slots_to l n = min n (length l / 2)

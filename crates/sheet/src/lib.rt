@@ -2,7 +2,7 @@
 ghost use Rattle.std.specs.Prelude.{◌≡◌};
 ghost use Rattle.memory.specs.Made.{Made};
 ghost use Rattle.sheet.specs.Share.{counted, share_of, bits_of};
-ghost use Rattle.sheet.specs.Sheet.{freePages, slotPages, slotsTo, sheetOf};
+ghost use Rattle.sheet.specs.Sheet.{free_pages, slot_pages, slots_to, sheet_of};
 
 use areas::Limit;
 use entry::{FoundEntry, MemoryEntry};
@@ -64,7 +64,7 @@ pub fn share_bits(free: u64, usable: u64) -> ShareBits
 
 // The sheet of two counts.
 pub fn page_sheet(free: u64, usable: u64) -> PageSheet
-    ensures { result ≡ sheetOf free usable }
+    ensures { result ≡ sheet_of free usable }
 {
     let share = share_of(free, usable);
     PageSheet {
@@ -77,7 +77,7 @@ pub fn page_sheet(free: u64, usable: u64) -> PageSheet
 // The Free pages of a map inside the limits.
 pub fn free_pages(map: MemoryMap, low: Limit, high: Limit) -> u64
     requires { Made 4096 map }
-    ensures { result ≡ freePages 4096 low high map }
+    ensures { result ≡ free_pages 4096 low high map }
 {
     let limits = areas::limits(low, high);
     let starts = map.starts;
@@ -107,7 +107,7 @@ pub fn free_pages(map: MemoryMap, low: Limit, high: Limit) -> u64
 
 // The pages of the first n areas of a table, capped at 2^64 - 1: a table of a map never comes near.
 pub fn usable_pages(slots: &[u64], n: usize) -> u64
-    ensures { result ≡ slotPages 4096 slots.now (slotsTo slots.now n) 0 }
+    ensures { result ≡ slot_pages 4096 slots.now (slots_to slots.now n) 0 }
 {
     let mut pages: u64 = 0;
     let mut i: usize = 0;

@@ -4,7 +4,7 @@ use Rattle.standard.specs.declared.Ending.{Ending}
 use Rattle.standard.specs.declared.Ending.TheVariants.{Written, Unread, Unwritten}
 
 -- 0 where all is written, and another number for each failure
-abbrev pub statusOf : Ending → ℕ
-statusOf Written = 0
-statusOf Unread = 1
-statusOf Unwritten = 2
+abbrev pub status_of : Ending → ℕ
+status_of Written = 0
+status_of Unread = 1
+status_of Unwritten = 2

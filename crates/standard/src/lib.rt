@@ -2,7 +2,7 @@
 // No contract can say which bytes are read or written: it says how many of a space hold what was read.
 ghost use Rattle.std.specs.Prelude.{◌≤◌, ◌≡◌};
 ghost use Rattle.standard.specs.Input.{Holds};
-ghost use Rattle.standard.specs.Status.{statusOf};
+ghost use Rattle.standard.specs.Status.{status_of};
 
 // What reading gave: so many bytes at the start of the space; or a read failed, and was told.
 #[derive(Drop)]
@@ -23,7 +23,7 @@ pub enum Ending {
 impl Ending {
     // The exit status.
     pub fn status(self) -> u8
-        ensures value { result ≡ statusOf self }
+        ensures value { result ≡ status_of self }
         ensures upper_bound { result ≤ 2 }
     {
         match self {

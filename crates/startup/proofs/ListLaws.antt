@@ -11,54 +11,54 @@ use Rattle.memory.specs.declared.MemoryMap.{MemoryMap}
 use Rattle.memory.specs.declared.Answer.{Answer}
 use Rattle.memory.specs.declared.Answer.TheVariants.{Done, UnknownKind, MapFull}
 use Rattle.memory.specs.declared.Registered.{Registered}
-use Rattle.memory.specs.Map.{answerNumber, registered}
-use Rattle.memory.specs.Run.{isDone, registeredAll}
-use Rattle.memory.proofs.RunLaws.{settled-done}
-use Rattle.bootloader.specs.List.{allKnown, claims, listed}
-use Rattle.bootloader.proofs.ListLaws.{listed-unknown, listed-known}
-use Rattle.runs.proofs.Runs.{done-or, run-nil, run_on, run-stops}
-use Rattle.runs.proofs.Refusals.{judged, list-unknown-exactly, list_done}
+use Rattle.memory.specs.Map.{answer_number, registered}
+use Rattle.memory.specs.Run.{is_done, registered_all}
+use Rattle.memory.proofs.RunLaws.{settled_done}
+use Rattle.bootloader.specs.List.{all_known, claims, listed}
+use Rattle.bootloader.proofs.ListLaws.{listed_unknown, listed_known}
+use Rattle.runs.proofs.Runs.{done_or, run_nil, run_on, run_stops}
+use Rattle.runs.proofs.Refusals.{judged, list_unknown_exactly, list_done}
 
 -- a run that is refused is refused whatever comes after it
-pub run-refused : (p : ℕ) (m : MemoryMap) (cs ds : List Claim) → isDone (registeredAll p m cs).answer ≡ false
-    → registeredAll p m (cs ++ ds) ≡ registeredAll p m cs
-run-refused p m [] ds e = let t = rw (run-nil p m) at e in never (cc)
-run-refused p m (c ∷ cs) ds e =
-    done-or (registered p m c).answer _
-    (λ d. rw (run_on p m c (cs ++ ds) d, run_on p m c cs d) (run-refused p (registered p m c).map cs ds (rw (run_on p m c cs d) at e)))
-    (λ n s. run-stops p m c (cs ++ ds) s ∙ sym (run-stops p m c cs s))
+pub run_refused : (p : ℕ) (m : MemoryMap) (cs ds : List Claim) → is_done (registered_all p m cs).answer ≡ false
+    → registered_all p m (cs ++ ds) ≡ registered_all p m cs
+run_refused p m [] ds e = let t = rw (run_nil p m) at e in never (cc)
+run_refused p m (c ∷ cs) ds e =
+    done_or (registered p m c).answer _
+    (λ d. rw (run_on p m c (cs ++ ds) d, run_on p m c cs d) (run_refused p (registered p m c).map cs ds (rw (run_on p m c cs d) at e)))
+    (λ n s. run_stops p m c (cs ++ ds) s ∙ sym (run_stops p m c cs s))
 
 -- the answer whose number is 1
-is-unknown : (a : Answer) → answerNumber a ≡ 1 → a ≡ UnknownKind
-is-unknown Done e = absurd (omega arith)
-is-unknown UnknownKind e = refl
-is-unknown MapFull e = absurd (omega arith)
+is_unknown : (a : Answer) → answer_number a ≡ 1 → a ≡ UnknownKind
+is_unknown Done e = absurd (omega arith)
+is_unknown UnknownKind e = refl
+is_unknown MapFull e = absurd (omega arith)
 
 -- x is what the list's call gave
 module _ (p : ℕ) (m : MemoryMap) (l : List ℕ) (x : Registered) (is : x ≡ listed p m l) where
-  pub list-unknown : answerNumber x.answer ≡ 1 → allKnown l ≡ false
-  list-unknown e =
+  pub list_unknown : answer_number x.answer ≡ 1 → all_known l ≡ false
+  list_unknown e =
       ⊎_elim
       (λ y.
-      let s = (list-unknown-exactly p m l).0 (rw is at (is-unknown x.answer e)) in
+      let s = (list_unknown_exactly p m l).0 (rw is at (is_unknown x.answer e)) in
       absurd (s.is (y.1 s.claim s.among)))
       (λ y. y.0)
       (judged (claims l))
 
-  pub list-known : (answerNumber x.answer ≡ 1 → ⊥) → allKnown l ≡ true
-  list-known f = go (allKnown l) refl
+  pub list_known : (answer_number x.answer ≡ 1 → ⊥) → all_known l ≡ true
+  list_known f = go (all_known l) refl
     where
-      go : (t : Bool) → allKnown l ≡ t → t ≡ true
+      go : (t : Bool) → all_known l ≡ t → t ≡ true
       go true e = refl
-      go false e = absurd (f (rw (is, listed-unknown p m l e)))
+      go false e = absurd (f (rw (is, listed_unknown p m l e)))
 
-  pub list-runs : x.answer ≡ Done → x ≡ registeredAll p m (claims l)
-  list-runs d = is ∙ list_done p m l (rw is at d)
+  pub list_runs : x.answer ≡ Done → x ≡ registered_all p m (claims l)
+  list_runs d = is ∙ list_done p m l (rw is at d)
 
-  pub list-refused : allKnown l ≡ true → isDone x.answer ≡ false → isDone (registeredAll p m (claims l)).answer ≡ false
-  list-refused k e =
-      done-or (registeredAll p m (claims l)).answer _
+  pub list_refused : all_known l ≡ true → is_done x.answer ≡ false → is_done (registered_all p m (claims l)).answer ≡ false
+  list_refused k e =
+      done_or (registered_all p m (claims l)).answer _
       (λ d.
-      let t : x ≡ registeredAll p m (claims l) = is ∙ listed-known p m l k ∙ settled-done m _ (ap isDone d) in
-      ap (λ (r : Registered). isDone r.answer) (sym t) ∙ e)
+      let t : x ≡ registered_all p m (claims l) = is ∙ listed_known p m l k ∙ settled_done m _ (ap is_done d) in
+      ap (λ (r : Registered). is_done r.answer) (sym t) ∙ e)
       (λ n s. s)

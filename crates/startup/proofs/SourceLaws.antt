@@ -9,157 +9,157 @@ use Rattle.page.specs.Round.{Page}
 use Rattle.memory.specs.declared.MemoryMap.{MemoryMap}
 use Rattle.memory.specs.declared.Answer.TheVariants.{Done}
 use Rattle.memory.specs.declared.Registered.{Registered}
-use Rattle.memory.specs.Map.{blank, answerNumber}
+use Rattle.memory.specs.Map.{blank, answer_number}
 use Rattle.memory.specs.Made.{Made}
-use Rattle.memory.specs.Run.{isDone, registeredAll}
-use Rattle.memory.proofs.MapLaws.{blank-made}
+use Rattle.memory.specs.Run.{is_done, registered_all}
+use Rattle.memory.proofs.MapLaws.{blank_made}
 use Rattle.memory.proofs.RunLaws.{all_made}
-use Rattle.bootloader.specs.List.{allKnown, claims, listed}
-use Rattle.bootloader.proofs.ListLaws.{listed-made}
-use Rattle.runs.proofs.Runs.{done-or, run-append}
+use Rattle.bootloader.specs.List.{all_known, claims, listed}
+use Rattle.bootloader.proofs.ListLaws.{listed_made}
+use Rattle.runs.proofs.Runs.{done_or, run_append}
 use Rattle.dtb.specs.declared.TreeRegistered.{TreeRegistered}
-use Rattle.dtb.specs.Call.{treeRegistered}
-use Rattle.dtb.proofs.CallLaws.{tree-made}
+use Rattle.dtb.specs.Call.{tree_registered}
+use Rattle.dtb.proofs.CallLaws.{tree_made}
 use Rattle.order.specs.declared.Order.{Order}
 use Rattle.startup.specs.declared.Refusal.{Refusal}
 use Rattle.startup.specs.declared.Refusal.TheVariants.{UnknownKind, MapFull}
 use Rattle.startup.specs.declared.Verdict.{Verdict}
 use Rattle.startup.specs.declared.Verdict.TheVariants.{Accepted, Rejected}
-use Rattle.startup.specs.Sources.{listIn, treeIn, treeClaims, pairClaims, registrations}
-use Rattle.startup.specs.Verdict.{listVerdict, treeVerdict, mapVerdict, run_of, verdictOf, sources, rejection, judgedSources, sourcesOf, treeFault, endedSources}
-use Rattle.startup.proofs.ListLaws.{run-refused, list-unknown, list-known, list-runs, list-refused}
-use Rattle.startup.proofs.TreeLaws.{TreeWay, faulty, full, taken, tree-way}
+use Rattle.startup.specs.Sources.{list_in, tree_in, tree_claims, pair_claims, registrations}
+use Rattle.startup.specs.Verdict.{list_verdict, tree_verdict, map_verdict, run_of, verdict_of, sources, rejection, judged_sources, sources_of, tree_fault, ended_sources}
+use Rattle.startup.proofs.ListLaws.{run_refused, list_unknown, list_known, list_runs, list_refused}
+use Rattle.startup.proofs.TreeLaws.{TreeWay, faulty, full, taken, tree_way}
 
 -- ── How a run ends ──
-pub ended-done : (r : Registered) → isDone r.answer ≡ true → sources r.map Accepted ≡ endedSources r
-unfolding endedSources mapVerdict
-ended-done r e = rw e
+pub ended_done : (r : Registered) → is_done r.answer ≡ true → sources r.map Accepted ≡ ended_sources r
+unfolding ended_sources map_verdict
+ended_done r e = rw e
 
-pub ended-refused : (r : Registered) → isDone r.answer ≡ false → rejection MapFull ≡ endedSources r
-unfolding endedSources mapVerdict
-ended-refused r e = rw e
+pub ended_refused : (r : Registered) → is_done r.answer ≡ false → rejection MapFull ≡ ended_sources r
+unfolding ended_sources map_verdict
+ended_refused r e = rw e
 
 module _ (p : ℕ) (s : List ℕ) (o : Order) where
   -- ── What is checked first decides ──
-  by-list : allKnown (listIn s o) ≡ false → rejection UnknownKind ≡ sourcesOf p s o
-  unfolding sourcesOf verdictOf listVerdict
-  by-list k = rw k
+  by_list : all_known (list_in s o) ≡ false → rejection UnknownKind ≡ sources_of p s o
+  unfolding sources_of verdict_of list_verdict
+  by_list k = rw k
 
-  module _ (k : allKnown (listIn s o) ≡ true) where
-    by-tree : (f : Refusal) → treeVerdict (treeIn s o) o.arm ≡ Rejected f → rejection f ≡ sourcesOf p s o
-    unfolding sourcesOf verdictOf listVerdict
-    by-tree f e = rw (k, e)
+  module _ (k : all_known (list_in s o) ≡ true) where
+    by_tree : (f : Refusal) → tree_verdict (tree_in s o) o.arm ≡ Rejected f → rejection f ≡ sources_of p s o
+    unfolding sources_of verdict_of list_verdict
+    by_tree f e = rw (k, e)
 
-    by-run : treeVerdict (treeIn s o) o.arm ≡ Accepted → endedSources (run_of p s o) ≡ sourcesOf p s o
-    unfolding sourcesOf verdictOf listVerdict endedSources
-    by-run e = rw (k, e)
+    by_run : tree_verdict (tree_in s o) o.arm ≡ Accepted → ended_sources (run_of p s o) ≡ sources_of p s o
+    unfolding sources_of verdict_of list_verdict ended_sources
+    by_run e = rw (k, e)
 
-    by-full : treeVerdict (treeIn s o) o.arm ≡ Accepted → isDone (run_of p s o).answer ≡ false → rejection MapFull ≡ sourcesOf p s o
-    by-full e n = ended-refused (run_of p s o) n ∙ by-run e
+    by_full : tree_verdict (tree_in s o) o.arm ≡ Accepted → is_done (run_of p s o).answer ≡ false → rejection MapFull ≡ sources_of p s o
+    by_full e n = ended_refused (run_of p s o) n ∙ by_run e
 
   -- ── The run of all registrations ──
-  abbrev listRun : Registered
-  listRun = registeredAll p blank (claims (listIn s o))
+  abbrev list_run : Registered
+  list_run = registered_all p blank (claims (list_in s o))
 
-  abbrev treeRun : Registered
-  treeRun = registeredAll p listRun.map (treeClaims (treeIn s o) o.arm)
+  abbrev tree_run : Registered
+  tree_run = registered_all p list_run.map (tree_claims (tree_in s o) o.arm)
 
-  list-stops : isDone listRun.answer ≡ false → isDone (run_of p s o).answer ≡ false
+  list_stops : is_done list_run.answer ≡ false → is_done (run_of p s o).answer ≡ false
   unfolding registrations
-  list-stops e = rw (run-refused p blank (claims (listIn s o)) (treeClaims (treeIn s o) o.arm ++ pairClaims o) e) e
+  list_stops e = rw (run_refused p blank (claims (list_in s o)) (tree_claims (tree_in s o) o.arm ++ pair_claims o) e) e
 
-  module _ (d : listRun.answer ≡ Done) where
-    list_on : run_of p s o ≡ registeredAll p listRun.map (treeClaims (treeIn s o) o.arm ++ pairClaims o)
+  module _ (d : list_run.answer ≡ Done) where
+    list_on : run_of p s o ≡ registered_all p list_run.map (tree_claims (tree_in s o) o.arm ++ pair_claims o)
     unfolding registrations
-    list_on = run-append p blank (claims (listIn s o)) (treeClaims (treeIn s o) o.arm ++ pairClaims o) d
+    list_on = run_append p blank (claims (list_in s o)) (tree_claims (tree_in s o) o.arm ++ pair_claims o) d
 
-    tree-stops : isDone treeRun.answer ≡ false → isDone (run_of p s o).answer ≡ false
-    tree-stops e = rw (list_on, run-refused p listRun.map (treeClaims (treeIn s o) o.arm) (pairClaims o) e) e
+    tree_stops : is_done tree_run.answer ≡ false → is_done (run_of p s o).answer ≡ false
+    tree_stops e = rw (list_on, run_refused p list_run.map (tree_claims (tree_in s o) o.arm) (pair_claims o) e) e
 
-    tree-on : treeRun.answer ≡ Done → run_of p s o ≡ registeredAll p treeRun.map (pairClaims o)
-    tree-on e = list_on ∙ run-append p listRun.map (treeClaims (treeIn s o) o.arm) (pairClaims o) e
+    tree_on : tree_run.answer ≡ Done → run_of p s o ≡ registered_all p tree_run.map (pair_claims o)
+    tree_on e = list_on ∙ run_append p list_run.map (tree_claims (tree_in s o) o.arm) (pair_claims o) e
 
   -- ── The calls: m is the empty map, l and t are the list and the tree, x is what the list's call gave, and y what the tree's gave ──
-  module _ (m : MemoryMap) (l t : List ℕ) (x : Registered) (em : m ≡ blank) (el : l ≡ listIn s o) (et : t ≡ treeIn s o) (ex : x ≡ listed p m l) where
-    is : x ≡ listed p blank (listIn s o)
+  module _ (m : MemoryMap) (l t : List ℕ) (x : Registered) (em : m ≡ blank) (el : l ≡ list_in s o) (et : t ≡ tree_in s o) (ex : x ≡ listed p m l) where
+    is : x ≡ listed p blank (list_in s o)
     is = rw (← em, ← el) ex
 
-    pub unknown-sources : answerNumber x.answer ≡ 1 → rejection UnknownKind ≡ sourcesOf p s o
-    unknown-sources e = by-list (list-unknown p blank (listIn s o) x is e)
+    pub unknown_sources : answer_number x.answer ≡ 1 → rejection UnknownKind ≡ sources_of p s o
+    unknown_sources e = by_list (list_unknown p blank (list_in s o) x is e)
 
-    module _ (known : answerNumber x.answer ≡ 1 → ⊥) (y : TreeRegistered) (ey : y ≡ treeRegistered p x.map t o.arm) where
-      treed : y ≡ treeRegistered p x.map (treeIn s o) o.arm
+    module _ (known : answer_number x.answer ≡ 1 → ⊥) (y : TreeRegistered) (ey : y ≡ tree_registered p x.map t o.arm) where
+      treed : y ≡ tree_registered p x.map (tree_in s o) o.arm
       treed = rw (← et) ey
 
-      is_known : allKnown (listIn s o) ≡ true
-      is_known = list-known p blank (listIn s o) x is known
+      is_known_lem : all_known (list_in s o) ≡ true
+      is_known_lem = list_known p blank (list_in s o) x is known
 
       abbrev ran : Registered
-      ran = registeredAll p x.map (treeClaims (treeIn s o) o.arm)
+      ran = registered_all p x.map (tree_claims (tree_in s o) o.arm)
 
-      goes : TreeWay (treeVerdict (treeIn s o) o.arm) ran y
-      goes = rw treed (tree-way p x.map (treeIn s o) o.arm)
+      goes : TreeWay (tree_verdict (tree_in s o) o.arm) ran y
+      goes = rw treed (tree_way p x.map (tree_in s o) o.arm)
 
       -- a list that overflowed
-      over : isDone x.answer ≡ false → isDone (run_of p s o).answer ≡ false
-      over e = list-stops (list-refused p blank (listIn s o) x is is_known e)
+      over : is_done x.answer ≡ false → is_done (run_of p s o).answer ≡ false
+      over e = list_stops (list_refused p blank (list_in s o) x is is_known_lem e)
 
       -- a tree that overflows, whether the list did or not
-      tree_over : isDone ran.answer ≡ false → isDone (run_of p s o).answer ≡ false
+      tree_over : is_done ran.answer ≡ false → is_done (run_of p s o).answer ≡ false
       tree_over e =
-          done-or x.answer _
+          done_or x.answer _
           (λ d.
-          let r : x ≡ listRun = list-runs p blank (listIn s o) x is d in
-          tree-stops (ap (λ (q : Registered). q.answer) (sym r) ∙ d) (rw r at e))
+          let r : x ≡ list_run = list_runs p blank (list_in s o) x is d in
+          tree_stops (ap (λ (q : Registered). q.answer) (sym r) ∙ d) (rw r at e))
           (λ n q. over q)
 
-      pub faulty-sources : (f : Refusal) → treeFault y.answer ≡ Rejected f → rejection f ≡ sourcesOf p s o
-      faulty-sources f e = go goes
+      pub faulty_sources : (f : Refusal) → tree_fault y.answer ≡ Rejected f → rejection f ≡ sources_of p s o
+      faulty_sources f e = go goes
         where
-          go : TreeWay (treeVerdict (treeIn s o) o.arm) ran y → rejection f ≡ sourcesOf p s o
-          go (faulty g v i) = by-tree is_known f (v ∙ sym i ∙ e)
-          go (full v i n) = let same : f ≡ MapFull = cc in rw same (by-full is_known v (tree_over n))
+          go : TreeWay (tree_verdict (tree_in s o) o.arm) ran y → rejection f ≡ sources_of p s o
+          go (faulty g v i) = by_tree is_known_lem f (v ∙ sym i ∙ e)
+          go (full v i n) = let same : f ≡ MapFull = cc in rw same (by_full is_known_lem v (tree_over n))
           go (taken v i d w) = never (cc)
 
-      module _ (fine : treeFault y.answer ≡ Accepted) where
-        pub full-sources : isDone x.answer ≡ false → rejection MapFull ≡ sourcesOf p s o
-        full-sources n = go goes
+      module _ (fine : tree_fault y.answer ≡ Accepted) where
+        pub full_sources : is_done x.answer ≡ false → rejection MapFull ≡ sources_of p s o
+        full_sources n = go goes
           where
-            go : TreeWay (treeVerdict (treeIn s o) o.arm) ran y → rejection MapFull ≡ sourcesOf p s o
+            go : TreeWay (tree_verdict (tree_in s o) o.arm) ran y → rejection MapFull ≡ sources_of p s o
             go (faulty g v i) = never (cc)
             go (full v i q) = never (cc)
-            go (taken v i d w) = by-full is_known v (over n)
+            go (taken v i d w) = by_full is_known_lem v (over n)
 
-        pub all-sources : x.answer ≡ Done → endedSources (registeredAll p y.map (pairClaims o)) ≡ sourcesOf p s o
-        all-sources d = go goes
+        pub all_sources : x.answer ≡ Done → ended_sources (registered_all p y.map (pair_claims o)) ≡ sources_of p s o
+        all_sources d = go goes
           where
-            r : x ≡ listRun
-            r = list-runs p blank (listIn s o) x is d
+            r : x ≡ list_run
+            r = list_runs p blank (list_in s o) x is d
 
-            go : TreeWay (treeVerdict (treeIn s o) o.arm) ran y → endedSources (registeredAll p y.map (pairClaims o)) ≡ sourcesOf p s o
+            go : TreeWay (tree_verdict (tree_in s o) o.arm) ran y → ended_sources (registered_all p y.map (pair_claims o)) ≡ sources_of p s o
             go (faulty g v i) = never (cc)
             go (full v i q) = never (cc)
             go (taken v i a w) =
-                let all : run_of p s o ≡ registeredAll p y.map (pairClaims o) =
-                tree-on (ap (λ (q : Registered). q.answer) (sym r) ∙ d) (rw r at a) ∙ rw (w, r) refl in
-                rw (← all) (by-run is_known v)
+                let all : run_of p s o ≡ registered_all p y.map (pair_claims o) =
+                tree_on (ap (λ (q : Registered). q.answer) (sym r) ∙ d) (rw r at a) ∙ rw (w, r) refl in
+                rw (← all) (by_run is_known_lem v)
 
 -- ── Each of them makes a map again ──
 module _ (p : ℕ) (g : Page p) where
-  pub list-made : (m : MemoryMap) (l : List ℕ) (x : Registered) → m ≡ blank → x ≡ listed p m l → Made p x.map
-  list-made m l x em ex = rw (ex, em) (listed-made p blank l g (blank-made p))
+  pub list_made : (m : MemoryMap) (l : List ℕ) (x : Registered) → m ≡ blank → x ≡ listed p m l → Made p x.map
+  list_made m l x em ex = rw (ex, em) (listed_made p blank l g (blank_made p))
 
-  pub treed-made : (m : MemoryMap) (t : List ℕ) (arm : Bool) (y : TreeRegistered) → Made p m → y ≡ treeRegistered p m t arm → Made p y.map
-  treed-made m t arm y h ey = rw ey (tree-made p m t arm g h)
+  pub treed_made : (m : MemoryMap) (t : List ℕ) (arm : Bool) (y : TreeRegistered) → Made p m → y ≡ tree_registered p m t arm → Made p y.map
+  treed_made m t arm y h ey = rw ey (tree_made p m t arm g h)
 
-  pub run-made : (s : List ℕ) (o : Order) → Made p (run_of p s o).map
-  run-made s o = all_made p blank (registrations s o) g (blank-made p)
+  pub run_made : (s : List ℕ) (o : Order) → Made p (run_of p s o).map
+  run_made s o = all_made p blank (registrations s o) g (blank_made p)
 
   -- and so does the whole: the map of the run, or the empty one beside a refusal
-  pub sources-made : (s : List ℕ) (o : Order) → Made p (sourcesOf p s o).map
-  unfolding sourcesOf
-  sources-made s o = go (verdictOf p s o)
+  pub sources_made : (s : List ℕ) (o : Order) → Made p (sources_of p s o).map
+  unfolding sources_of
+  sources_made s o = go (verdict_of p s o)
     where
-      go : (v : Verdict) → Made p (judgedSources (run_of p s o).map v).map
-      go Accepted = run-made s o
-      go (Rejected r) = blank-made p
+      go : (v : Verdict) → Made p (judged_sources (run_of p s o).map v).map
+      go Accepted = run_made s o
+      go (Rejected r) = blank_made p

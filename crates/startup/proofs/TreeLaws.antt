@@ -7,54 +7,54 @@ use Prim.Native.Nat.{ℕ}
 use Rattle.memory.specs.declared.MemoryMap.{MemoryMap}
 use Rattle.memory.specs.declared.Answer.TheVariants.{Done}
 use Rattle.memory.specs.declared.Registered.{Registered}
-use Rattle.memory.specs.Run.{isDone, registeredAll}
-use Rattle.runs.proofs.Runs.{done-or, run-nil}
+use Rattle.memory.specs.Run.{is_done, registered_all}
+use Rattle.runs.proofs.Runs.{done_or, run_nil}
 use Rattle.fdt.specs.declared.Opened.{Opened}
 use Rattle.fdt.specs.declared.Opened.TheVariants.{NoTree, Tree, BadHeader, OverLimit, BadStructure}
-use Rattle.fdt.specs.Header.{structureOf, stringsOf}
+use Rattle.fdt.specs.Header.{structure_of, strings_of}
 use Rattle.fdt.specs.Tree.{tree_of}
 use Rattle.fdt.specs.Opening.{opened_of}
 use Rattle.claims.specs.declared.Judged.{Judged}
 use Rattle.claims.specs.declared.Judged.TheVariants.{Sound, UnreadableReg, UnreadableRanges}
-use Rattle.claims.specs.Judging.{judgedOf}
+use Rattle.claims.specs.Judging.{judged_of}
 use Rattle.dtb.specs.declared.TreeRegistered.{TreeRegistered}
-use Rattle.dtb.specs.Call.{settledTree, judgedCall, openedCall, treeRegistered}
-use Rattle.dtb.proofs.CallLaws.{settled-done, settled-refused}
+use Rattle.dtb.specs.Call.{settled_tree, judged_call, opened_call, tree_registered}
+use Rattle.dtb.proofs.CallLaws.{settled_done, settled_refused}
 use Rattle.startup.specs.declared.Refusal.{Refusal}
 use Rattle.startup.specs.declared.Refusal.TheVariants.{MapFull}
 use Rattle.startup.specs.declared.Verdict.{Verdict}
 use Rattle.startup.specs.declared.Verdict.TheVariants.{Accepted, Rejected}
-use Rattle.startup.specs.Sources.{claimsBy, treeClaims}
-use Rattle.startup.specs.Verdict.{judgedVerdict, openedVerdict, treeVerdict, treeFault}
+use Rattle.startup.specs.Sources.{claims_by, tree_claims}
+use Rattle.startup.specs.Verdict.{judged_verdict, opened_verdict, tree_verdict, tree_fault}
 
 -- the three ways of the call y, where v is the verdict on the tree alone and r the run of its claims
 pub data TreeWay (v : Verdict) (r : Registered) (y : TreeRegistered) : Type 0 where
-  faulty : (f : Refusal) → v ≡ Rejected f → treeFault y.answer ≡ Rejected f → TreeWay v r y
-  full : v ≡ Accepted → treeFault y.answer ≡ Rejected MapFull → isDone r.answer ≡ false → TreeWay v r y
-  taken : v ≡ Accepted → treeFault y.answer ≡ Accepted → r.answer ≡ Done → y.map ≡ r.map → TreeWay v r y
+  faulty : (f : Refusal) → v ≡ Rejected f → tree_fault y.answer ≡ Rejected f → TreeWay v r y
+  full : v ≡ Accepted → tree_fault y.answer ≡ Rejected MapFull → is_done r.answer ≡ false → TreeWay v r y
+  taken : v ≡ Accepted → tree_fault y.answer ≡ Accepted → r.answer ≡ Done → y.map ≡ r.map → TreeWay v r y
 
 module _ (m : MemoryMap) (r : Registered) where
-  by-run : TreeWay Accepted r (settledTree m r)
-  by-run =
-      done-or r.answer (TreeWay Accepted r (settledTree m r))
+  by_run : TreeWay Accepted r (settled_tree m r)
+  by_run =
+      done_or r.answer (TreeWay Accepted r (settled_tree m r))
       (λ d.
-      let e = settled-done m r (ap isDone d) in
-      taken refl (ap (λ (y : TreeRegistered). treeFault y.answer) e) d (ap (λ (y : TreeRegistered). y.map) e))
-      (λ n s. full refl (ap (λ (y : TreeRegistered). treeFault y.answer) (settled-refused m r s)) s)
+      let e = settled_done m r (ap is_done d) in
+      taken refl (ap (λ (y : TreeRegistered). tree_fault y.answer) e) d (ap (λ (y : TreeRegistered). y.map) e))
+      (λ n s. full refl (ap (λ (y : TreeRegistered). tree_fault y.answer) (settled_refused m r s)) s)
 
-  by-judging : (j : Judged) → TreeWay (judgedVerdict j) r (judgedCall m j r)
-  by-judging Sound = by-run
-  by-judging UnreadableReg = faulty _ refl refl
-  by-judging UnreadableRanges = faulty _ refl refl
+  by_judging : (j : Judged) → TreeWay (judged_verdict j) r (judged_call m j r)
+  by_judging Sound = by_run
+  by_judging UnreadableReg = faulty _ refl refl
+  by_judging UnreadableRanges = faulty _ refl refl
 
 module _ (p : ℕ) (m : MemoryMap) (t : List ℕ) (arm : Bool) where
-  by-opening : (o : Opened) → TreeWay (openedVerdict t arm o) (registeredAll p m (claimsBy t arm o)) (openedCall p m t arm o)
-  by-opening NoTree = taken refl refl (ap (λ (r : Registered). r.answer) (run-nil p m)) (ap (λ (r : Registered). r.map) (sym (run-nil p m)))
-  by-opening BadHeader = faulty _ refl refl
-  by-opening OverLimit = faulty _ refl refl
-  by-opening BadStructure = faulty _ refl refl
-  by-opening (Tree k) = by-judging m _ (judgedOf arm (tree_of (structureOf t) (stringsOf t)))
+  by_opening : (o : Opened) → TreeWay (opened_verdict t arm o) (registered_all p m (claims_by t arm o)) (opened_call p m t arm o)
+  by_opening NoTree = taken refl refl (ap (λ (r : Registered). r.answer) (run_nil p m)) (ap (λ (r : Registered). r.map) (sym (run_nil p m)))
+  by_opening BadHeader = faulty _ refl refl
+  by_opening OverLimit = faulty _ refl refl
+  by_opening BadStructure = faulty _ refl refl
+  by_opening (Tree k) = by_judging m _ (judged_of arm (tree_of (structure_of t) (strings_of t)))
 
-  pub tree-way : TreeWay (treeVerdict t arm) (registeredAll p m (treeClaims t arm)) (treeRegistered p m t arm)
-  unfolding treeVerdict treeClaims treeRegistered
-  tree-way = by-opening (opened_of t)
+  pub tree_way : TreeWay (tree_verdict t arm) (registered_all p m (tree_claims t arm)) (tree_registered p m t arm)
+  unfolding tree_verdict tree_claims tree_registered
+  tree_way = by_opening (opened_of t)

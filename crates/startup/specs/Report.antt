@@ -4,10 +4,10 @@ use Rattle.std.specs.Prelude.{◌≡◌, ℕ, cond, List, length}
 use Rattle.memory.specs.declared.MemoryMap.{MemoryMap}
 use Rattle.areas.specs.declared.Limit.{Limit}
 use Rattle.areas.specs.Interval.{Interval}
-use Rattle.areas.specs.Areas.{areasOf}
+use Rattle.areas.specs.Areas.{areas_of}
 use Rattle.areas.specs.Table.{fits, table_of}
 use Rattle.sheet.specs.declared.PageSheet.{PageSheet}
-use Rattle.sheet.specs.Sheet.{mapSheet}
+use Rattle.sheet.specs.Sheet.{map_sheet}
 use Rattle.order.specs.declared.OrderRead.{OrderRead}
 use Rattle.order.specs.declared.OrderRead.TheVariants.{Layout, BadOrder as NoOrder}
 use Rattle.order.specs.Layout.{order_of}
@@ -16,54 +16,54 @@ use Rattle.startup.specs.declared.Verdict.{Verdict}
 use Rattle.startup.specs.declared.Verdict.TheVariants.{Accepted, Rejected}
 use Rattle.startup.specs.declared.Report.{Report}
 use Rattle.startup.specs.declared.Report.TheVariants.{Done, Refused}
-use Rattle.startup.specs.Verdict.{refusalNumber, run_of, verdictOf}
+use Rattle.startup.specs.Verdict.{refusal_number, run_of, verdict_of}
 
 -- "0 is done."
-abbrev pub reportNumber : Report → ℕ
-reportNumber (Done n sheet) = 0
-reportNumber (Refused r) = refusalNumber r
+abbrev pub report_number : Report → ℕ
+report_number (Done n sheet) = 0
+report_number (Refused r) = refusal_number r
 
 -- 3: "more areas than slots"; else the count of the areas and the page sheet
 unfoldable pub finished : List Interval → PageSheet → List ℕ → Report
 finished areas sheet l = cond (fits areas l) (Done (length areas) sheet) (Refused TooManyAreas)
 
 -- of a map under some limits
-abbrev pub mapReport : ℕ → MemoryMap → Limit → Limit → List ℕ → Report
-mapReport p m low high l = finished (areasOf p low high m) (mapSheet p low high m) l
+abbrev pub map_report : ℕ → MemoryMap → Limit → Limit → List ℕ → Report
+map_report p m low high l = finished (areas_of p low high m) (map_sheet p low high m) l
 
 abbrev pub map_slots : ℕ → MemoryMap → Limit → Limit → List ℕ → List ℕ
-map_slots p m low high l = table_of (areasOf p low high m) l
+map_slots p m low high l = table_of (areas_of p low high m) l
 
 -- what the sources were refused for comes first, and "writes nothing"
-abbrev pub verdictReport : Verdict → Report → Report
-verdictReport (Rejected r) done = Refused r
-verdictReport Accepted done = done
+abbrev pub verdict_report : Verdict → Report → Report
+verdict_report (Rejected r) done = Refused r
+verdict_report Accepted done = done
 
-abbrev pub verdictSlots : Verdict → List ℕ → List ℕ → List ℕ
-verdictSlots (Rejected r) l after = l
-verdictSlots Accepted l after = after
+abbrev pub verdict_slots : Verdict → List ℕ → List ℕ → List ℕ
+verdict_slots (Rejected r) l after = l
+verdict_slots Accepted l after = after
 
 -- 9 comes before all
-abbrev pub readReport : ℕ → List ℕ → List ℕ → OrderRead → Report
-readReport p s l NoOrder = Refused BadOrder
-readReport p s l (Layout o) = verdictReport (verdictOf p s o) (mapReport p (run_of p s o).map o.low o.high l)
+abbrev pub read_report : ℕ → List ℕ → List ℕ → OrderRead → Report
+read_report p s l NoOrder = Refused BadOrder
+read_report p s l (Layout o) = verdict_report (verdict_of p s o) (map_report p (run_of p s o).map o.low o.high l)
 
 abbrev pub read_slots : ℕ → List ℕ → List ℕ → OrderRead → List ℕ
 read_slots p s l NoOrder = l
-read_slots p s l (Layout o) = verdictSlots (verdictOf p s o) l (map_slots p (run_of p s o).map o.low o.high l)
+read_slots p s l (Layout o) = verdict_slots (verdict_of p s o) l (map_slots p (run_of p s o).map o.low o.high l)
 
 -- THE REPORT of an order file s with lent slots l, and the slots afterwards
-unfoldable pub reportOf : ℕ → List ℕ → List ℕ → Report
-reportOf p s l = readReport p s l (order_of s)
+unfoldable pub report_of : ℕ → List ℕ → List ℕ → Report
+report_of p s l = read_report p s l (order_of s)
 
-unfoldable pub slotsAfter : ℕ → List ℕ → List ℕ → List ℕ
-slotsAfter p s l = read_slots p s l (order_of s)
+unfoldable pub slots_after : ℕ → List ℕ → List ℕ → List ℕ
+slots_after p s l = read_slots p s l (order_of s)
 
 pub record Reports (p : ℕ) (s l l' : List ℕ) (r : Report) : Type 0 where
-  pub report : r ≡ reportOf p s l
-  pub slots : l' ≡ slotsAfter p s l
+  pub report : r ≡ report_of p s l
+  pub slots : l' ≡ slots_after p s l
 
 -- the step that ends it
 pub record Finishes (p : ℕ) (m : MemoryMap) (low high : Limit) (l l' : List ℕ) (r : Report) : Type 0 where
-  pub report : r ≡ mapReport p m low high l
+  pub report : r ≡ map_report p m low high l
   pub slots : l' ≡ map_slots p m low high l

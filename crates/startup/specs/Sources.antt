@@ -9,52 +9,52 @@ use Rattle.entry.specs.Kind.{number_of}
 use Rattle.entry.specs.Claim.{Claim, claim}
 use Rattle.memory.specs.declared.Registered.{Registered}
 use Rattle.memory.specs.Map.{registered}
-use Rattle.memory.specs.Run.{isDone}
+use Rattle.memory.specs.Run.{is_done}
 use Rattle.bootloader.specs.List.{claims}
 use Rattle.fdt.specs.declared.Opened.{Opened}
 use Rattle.fdt.specs.declared.Opened.TheVariants.{NoTree, Tree, BadHeader, OverLimit, BadStructure}
-use Rattle.fdt.specs.Header.{structureOf, stringsOf}
+use Rattle.fdt.specs.Header.{structure_of, strings_of}
 use Rattle.fdt.specs.Tree.{tree_of}
 use Rattle.fdt.specs.Opening.{opened_of}
-use Rattle.reservations.specs.Reservations.{blockIn, entriesOf}
+use Rattle.reservations.specs.Reservations.{block_in, entries_of}
 use Rattle.claims.specs.Claims.{claims_of}
 use Rattle.order.specs.declared.Order.{Order}
 
 -- the bytes of the list and of the tree
-abbrev pub listIn : List ℕ → Order → List ℕ
-listIn s o = part_of s o.list.at o.list.len
+abbrev pub list_in : List ℕ → Order → List ℕ
+list_in s o = part_of s o.list.at o.list.len
 
-abbrev pub treeIn : List ℕ → Order → List ℕ
-treeIn s o = part_of s o.tree.at o.tree.len
+abbrev pub tree_in : List ℕ → Order → List ℕ
+tree_in s o = part_of s o.tree.at o.tree.len
 
 -- what a tree claims: its reservations, then its devices; what is no tree claims nothing
-abbrev pub claimsBy : List ℕ → Bool → Opened → List Claim
-claimsBy t arm (Tree k) = claims_of arm (entriesOf (blockIn t k)) (tree_of (structureOf t) (stringsOf t))
-claimsBy t arm NoTree = []
-claimsBy t arm BadHeader = []
-claimsBy t arm OverLimit = []
-claimsBy t arm BadStructure = []
+abbrev pub claims_by : List ℕ → Bool → Opened → List Claim
+claims_by t arm (Tree k) = claims_of arm (entries_of (block_in t k)) (tree_of (structure_of t) (strings_of t))
+claims_by t arm NoTree = []
+claims_by t arm BadHeader = []
+claims_by t arm OverLimit = []
+claims_by t arm BadStructure = []
 
-unfoldable pub treeClaims : List ℕ → Bool → List Claim
-treeClaims t arm = claimsBy t arm (opened_of t)
+unfoldable pub tree_claims : List ℕ → Bool → List Claim
+tree_claims t arm = claims_by t arm (opened_of t)
 
 -- "then kernel as Kernel, and env, hwdesc, bootstrap, stack as IdentityMap"
-abbrev pub pairClaim : BootloaderMemoryKind → Region → Claim
-pairClaim kind pair = claim pair.address pair.size (number_of kind)
+abbrev pub pair_claim : BootloaderMemoryKind → Region → Claim
+pair_claim kind pair = claim pair.address pair.size (number_of kind)
 
-unfoldable pub pairClaims : Order → List Claim
-pairClaims o =
-    pairClaim Kernel o.kernel
-    ∷ pairClaim IdentityMap o.env
-    ∷ pairClaim IdentityMap o.hwdesc
-    ∷ pairClaim IdentityMap o.bootstrap
-    ∷ pairClaim IdentityMap o.stack
+unfoldable pub pair_claims : Order → List Claim
+pair_claims o =
+    pair_claim Kernel o.kernel
+    ∷ pair_claim IdentityMap o.env
+    ∷ pair_claim IdentityMap o.hwdesc
+    ∷ pair_claim IdentityMap o.bootstrap
+    ∷ pair_claim IdentityMap o.stack
     ∷ []
 
 -- all of them, in order
 unfoldable pub registrations : List ℕ → Order → List Claim
-registrations s o = claims (listIn s o) ++ (treeClaims (treeIn s o) o.arm ++ pairClaims o)
+registrations s o = claims (list_in s o) ++ (tree_claims (tree_in s o) o.arm ++ pair_claims o)
 
 -- one registration more after a run, unless that was refused: the step by which the five pairs are registered
 unfoldable pub and_then : ℕ → Registered → Claim → Registered
-and_then p r c = cond (isDone r.answer) (registered p r.map c) r
+and_then p r c = cond (is_done r.answer) (registered p r.map c) r

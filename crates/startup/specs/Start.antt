@@ -12,33 +12,33 @@ use Rattle.startup.specs.declared.Report.{Report}
 use Rattle.startup.specs.declared.Report.TheVariants.{Done, Refused}
 use Rattle.startup.specs.declared.Start.{Start}
 use Rattle.startup.specs.Verdict.{run_of}
-use Rattle.startup.specs.Report.{reportOf, Reports, Finishes}
+use Rattle.startup.specs.Report.{report_of, Reports, Finishes}
 
 -- "A refused list, tree or build gives back the map as at its call": the empty one, also beside 3
-abbrev pub keptMap : Report → MemoryMap → MemoryMap
-keptMap (Done n sheet) m = m
-keptMap (Refused r) m = blank
+abbrev pub kept_map : Report → MemoryMap → MemoryMap
+kept_map (Done n sheet) m = m
+kept_map (Refused r) m = blank
 
 -- the map of all registrations
-abbrev pub fileMap : ℕ → List ℕ → OrderRead → MemoryMap
-fileMap p s NoOrder = blank
-fileMap p s (Layout o) = (run_of p s o).map
+abbrev pub file_map : ℕ → List ℕ → OrderRead → MemoryMap
+file_map p s NoOrder = blank
+file_map p s (Layout o) = (run_of p s o).map
 
 -- THE MAP that the build of an order file s with lent slots l leaves
-unfoldable pub mapLeft : ℕ → List ℕ → List ℕ → MemoryMap
-mapLeft p s l = keptMap (reportOf p s l) (fileMap p s (order_of s))
+unfoldable pub map_left : ℕ → List ℕ → List ℕ → MemoryMap
+map_left p s l = kept_map (report_of p s l) (file_map p s (order_of s))
 
 pub record Starts (p : ℕ) (s l l' : List ℕ) (r : Start) : Type 0 where
   pub reports : Reports p s l l' r.report
-  pub map : r.map ≡ mapLeft p s l
+  pub map : r.map ≡ map_left p s l
 
 -- ── The steps of the code ──
 abbrev pub start : MemoryMap → Report → Start
 start m r = record { map = m; report = r }
 
-abbrev pub notStarted : Refusal → Start
-notStarted r = start blank (Refused r)
+abbrev pub not_started : Refusal → Start
+not_started r = start blank (Refused r)
 
 pub record StartFinishes (p : ℕ) (m : MemoryMap) (low high : Limit) (l l' : List ℕ) (r : Start) : Type 0 where
   pub finishes : Finishes p m low high l l' r.report
-  pub map : r.map ≡ keptMap r.report m
+  pub map : r.map ≡ kept_map r.report m

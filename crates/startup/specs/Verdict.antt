@@ -3,16 +3,16 @@ use Rattle.std.specs.Prelude.{ℕ, Bool, cond, List}
 use Rattle.memory.specs.declared.MemoryMap.{MemoryMap}
 use Rattle.memory.specs.declared.Registered.{Registered}
 use Rattle.memory.specs.Map.{blank}
-use Rattle.memory.specs.Run.{isDone, registeredAll}
-use Rattle.bootloader.specs.List.{allKnown}
+use Rattle.memory.specs.Run.{is_done, registered_all}
+use Rattle.bootloader.specs.List.{all_known}
 use Rattle.fdt.specs.declared.Opened.{Opened}
 use Rattle.fdt.specs.declared.Opened.TheVariants.{NoTree, Tree, BadHeader as NoHeader, OverLimit as Over, BadStructure as NoStructure}
-use Rattle.fdt.specs.Header.{structureOf, stringsOf}
+use Rattle.fdt.specs.Header.{structure_of, strings_of}
 use Rattle.fdt.specs.Tree.{tree_of}
 use Rattle.fdt.specs.Opening.{opened_of}
 use Rattle.claims.specs.declared.Judged.{Judged}
 use Rattle.claims.specs.declared.Judged.TheVariants.{Sound, UnreadableReg as NoReg, UnreadableRanges as NoRanges}
-use Rattle.claims.specs.Judging.{judgedOf}
+use Rattle.claims.specs.Judging.{judged_of}
 use Rattle.dtb.specs.declared.TreeAnswer.{TreeAnswer}
 use Rattle.dtb.specs.declared.TreeAnswer.TheVariants.{Done as TreeDone, BadHeader as TreeHeader, OverLimit as TreeOver, BadStructure as TreeStructure, UnreadableReg as TreeReg, UnreadableRanges as TreeRanges, MapFull as TreeFull}
 use Rattle.order.specs.declared.Order.{Order}
@@ -21,23 +21,23 @@ use Rattle.startup.specs.declared.Refusal.TheVariants.{BadOrder, UnknownKind, Ba
 use Rattle.startup.specs.declared.Verdict.{Verdict}
 use Rattle.startup.specs.declared.Verdict.TheVariants.{Accepted, Rejected}
 use Rattle.startup.specs.declared.Sources.{Sources}
-use Rattle.startup.specs.Sources.{listIn, treeIn, registrations}
+use Rattle.startup.specs.Sources.{list_in, tree_in, registrations}
 
-abbrev pub refusalNumber : Refusal → ℕ
-refusalNumber BadOrder = 9
-refusalNumber UnknownKind = 1
-refusalNumber BadHeader = 4
-refusalNumber OverLimit = 6
-refusalNumber BadStructure = 5
-refusalNumber UnreadableReg = 7
-refusalNumber UnreadableRanges = 8
-refusalNumber MapFull = 2
-refusalNumber TooManyAreas = 3
+abbrev pub refusal_number : Refusal → ℕ
+refusal_number BadOrder = 9
+refusal_number UnknownKind = 1
+refusal_number BadHeader = 4
+refusal_number OverLimit = 6
+refusal_number BadStructure = 5
+refusal_number UnreadableReg = 7
+refusal_number UnreadableRanges = 8
+refusal_number MapFull = 2
+refusal_number TooManyAreas = 3
 
 -- "0 is done."
-abbrev pub verdictNumber : Verdict → ℕ
-verdictNumber Accepted = 0
-verdictNumber (Rejected r) = refusalNumber r
+abbrev pub verdict_number : Verdict → ℕ
+verdict_number Accepted = 0
+verdict_number (Rejected r) = refusal_number r
 
 -- "Checked in this order": what is checked first decides
 abbrev pub first_of : Verdict → Verdict → Verdict
@@ -45,38 +45,38 @@ first_of (Rejected r) next = Rejected r
 first_of Accepted next = next
 
 -- 1: "a kind is none of the seven, size 0 included"
-unfoldable pub listVerdict : List ℕ → Verdict
-listVerdict l = cond (allKnown l) Accepted (Rejected UnknownKind)
+unfoldable pub list_verdict : List ℕ → Verdict
+list_verdict l = cond (all_known l) Accepted (Rejected UnknownKind)
 
 -- 7, then 8
-abbrev pub judgedVerdict : Judged → Verdict
-judgedVerdict Sound = Accepted
-judgedVerdict NoReg = Rejected UnreadableReg
-judgedVerdict NoRanges = Rejected UnreadableRanges
+abbrev pub judged_verdict : Judged → Verdict
+judged_verdict Sound = Accepted
+judged_verdict NoReg = Rejected UnreadableReg
+judged_verdict NoRanges = Rejected UnreadableRanges
 
 -- 4, 6, 5, then 7 and 8. No map is asked: "The tree is judged before its first claim is registered."
-abbrev pub openedVerdict : List ℕ → Bool → Opened → Verdict
-openedVerdict t arm NoTree = Accepted
-openedVerdict t arm NoHeader = Rejected BadHeader
-openedVerdict t arm Over = Rejected OverLimit
-openedVerdict t arm NoStructure = Rejected BadStructure
-openedVerdict t arm (Tree k) = judgedVerdict (judgedOf arm (tree_of (structureOf t) (stringsOf t)))
+abbrev pub opened_verdict : List ℕ → Bool → Opened → Verdict
+opened_verdict t arm NoTree = Accepted
+opened_verdict t arm NoHeader = Rejected BadHeader
+opened_verdict t arm Over = Rejected OverLimit
+opened_verdict t arm NoStructure = Rejected BadStructure
+opened_verdict t arm (Tree k) = judged_verdict (judged_of arm (tree_of (structure_of t) (strings_of t)))
 
-unfoldable pub treeVerdict : List ℕ → Bool → Verdict
-treeVerdict t arm = openedVerdict t arm (opened_of t)
+unfoldable pub tree_verdict : List ℕ → Bool → Verdict
+tree_verdict t arm = opened_verdict t arm (opened_of t)
 
 -- 2: "map full". Where it is asked no kind is unknown, so nothing else can be refused (Rows.exactly, in order_theorems)
-unfoldable pub mapVerdict : Registered → Verdict
-mapVerdict r = cond (isDone r.answer) Accepted (Rejected MapFull)
+unfoldable pub map_verdict : Registered → Verdict
+map_verdict r = cond (is_done r.answer) Accepted (Rejected MapFull)
 
 -- the run of an order file's registrations from the empty map
 abbrev pub run_of : ℕ → List ℕ → Order → Registered
-run_of p s o = registeredAll p blank (registrations s o)
+run_of p s o = registered_all p blank (registrations s o)
 
 -- 1, 4, 6, 5, 7, 8, 2
-unfoldable pub verdictOf : ℕ → List ℕ → Order → Verdict
-verdictOf p s o =
-    first_of (listVerdict (listIn s o)) (first_of (treeVerdict (treeIn s o) o.arm) (mapVerdict (run_of p s o)))
+unfoldable pub verdict_of : ℕ → List ℕ → Order → Verdict
+verdict_of p s o =
+    first_of (list_verdict (list_in s o)) (first_of (tree_verdict (tree_in s o) o.arm) (map_verdict (run_of p s o)))
 
 -- ── The map that the sources leave ──
 abbrev pub sources : MemoryMap → Verdict → Sources
@@ -86,22 +86,22 @@ abbrev pub rejection : Refusal → Sources
 rejection r = sources blank (Rejected r)
 
 -- "A refused list, tree or build gives back the map as at its call": the empty one
-abbrev pub judgedSources : MemoryMap → Verdict → Sources
-judgedSources m Accepted = sources m Accepted
-judgedSources m (Rejected r) = rejection r
+abbrev pub judged_sources : MemoryMap → Verdict → Sources
+judged_sources m Accepted = sources m Accepted
+judged_sources m (Rejected r) = rejection r
 
-unfoldable pub sourcesOf : ℕ → List ℕ → Order → Sources
-sourcesOf p s o = judgedSources (run_of p s o).map (verdictOf p s o)
+unfoldable pub sources_of : ℕ → List ℕ → Order → Sources
+sources_of p s o = judged_sources (run_of p s o).map (verdict_of p s o)
 
 -- ── The steps of the code ──
-abbrev pub treeFault : TreeAnswer → Verdict
-treeFault TreeDone = Accepted
-treeFault TreeHeader = Rejected BadHeader
-treeFault TreeOver = Rejected OverLimit
-treeFault TreeStructure = Rejected BadStructure
-treeFault TreeReg = Rejected UnreadableReg
-treeFault TreeRanges = Rejected UnreadableRanges
-treeFault TreeFull = Rejected MapFull
+abbrev pub tree_fault : TreeAnswer → Verdict
+tree_fault TreeDone = Accepted
+tree_fault TreeHeader = Rejected BadHeader
+tree_fault TreeOver = Rejected OverLimit
+tree_fault TreeStructure = Rejected BadStructure
+tree_fault TreeReg = Rejected UnreadableReg
+tree_fault TreeRanges = Rejected UnreadableRanges
+tree_fault TreeFull = Rejected MapFull
 
-unfoldable pub endedSources : Registered → Sources
-endedSources r = judgedSources r.map (mapVerdict r)
+unfoldable pub ended_sources : Registered → Sources
+ended_sources r = judged_sources r.map (map_verdict r)

@@ -1,13 +1,13 @@
 // The whole build: an order file's registrations, from all its sources in their order, and the finished areas with their page sheet.
 // The memory side of the kernel's src/startup/memory.rs.
 ghost use Rattle.std.specs.Prelude.{◌≡◌};
-ghost use Rattle.memory.specs.Map.{mapOf, left};
+ghost use Rattle.memory.specs.Map.{map_of, left};
 ghost use Rattle.memory.specs.Made.{Made};
-ghost use Rattle.memory.specs.Run.{registeredAll};
-ghost use Rattle.startup.specs.Sources.{pairClaim, pairClaims, and_then};
-ghost use Rattle.startup.specs.Verdict.{refusalNumber, verdictNumber, treeFault, rejection, sourcesOf, endedSources};
-ghost use Rattle.startup.specs.Report.{reportNumber, Finishes, Reports};
-ghost use Rattle.startup.specs.Start.{notStarted, StartFinishes, Starts};
+ghost use Rattle.memory.specs.Run.{registered_all};
+ghost use Rattle.startup.specs.Sources.{pair_claim, pair_claims, and_then};
+ghost use Rattle.startup.specs.Verdict.{refusal_number, verdict_number, tree_fault, rejection, sources_of, ended_sources};
+ghost use Rattle.startup.specs.Report.{report_number, Finishes, Reports};
+ghost use Rattle.startup.specs.Start.{not_started, StartFinishes, Starts};
 
 use areas::{Built, Limit};
 use cells::Region;
@@ -33,7 +33,7 @@ pub enum Refusal {
 
 impl Refusal {
     pub fn number(self) -> u8
-        ensures { result ≡ refusalNumber self }
+        ensures { result ≡ refusal_number self }
     {
         match self {
             Refusal::BadOrder => 9,
@@ -57,7 +57,7 @@ pub enum Verdict {
 
 impl Verdict {
     pub fn number(self) -> u8
-        ensures { result ≡ verdictNumber self }
+        ensures { result ≡ verdict_number self }
     {
         match self {
             Verdict::Accepted => 0,
@@ -83,7 +83,7 @@ pub enum Report {
 
 impl Report {
     pub fn number(self) -> u8
-        ensures { result ≡ reportNumber self }
+        ensures { result ≡ report_number self }
     {
         match self {
             Report::Done(_, _) => 0,
@@ -108,8 +108,8 @@ fn then_register(
     pair: Region,
     kind: BootloaderMemoryKind,
 ) -> Admitted
-    requires { Made 4096 (mapOf starts.old ends.old kinds.old before.size) }
-    ensures { left result starts.new ends.new kinds.new ≡ and_then 4096 (left before starts.old ends.old kinds.old) (pairClaim kind pair) }
+    requires { Made 4096 (map_of starts.old ends.old kinds.old before.size) }
+    ensures { left result starts.new ends.new kinds.new ≡ and_then 4096 (left before starts.old ends.old kinds.old) (pair_claim kind pair) }
 {
     let answer = before.answer;
     let Answer::Done = answer else {
@@ -135,8 +135,8 @@ fn register_pairs_in(
     size: usize,
     order: Order,
 ) -> Admitted
-    requires { Made 4096 (mapOf starts.old ends.old kinds.old size) }
-    ensures { left result starts.new ends.new kinds.new ≡ registeredAll 4096 (mapOf starts.old ends.old kinds.old size) (pairClaims order) }
+    requires { Made 4096 (map_of starts.old ends.old kinds.old size) }
+    ensures { left result starts.new ends.new kinds.new ≡ registered_all 4096 (map_of starts.old ends.old kinds.old size) (pair_claims order) }
 {
     let none = Admitted {
         size,
@@ -170,7 +170,7 @@ fn rejected(refusal: Refusal) -> Sources
 // The last of the sources: the five pairs.
 fn register_pairs(map: MemoryMap, order: Order) -> Sources
     requires { Made 4096 map }
-    ensures { result ≡ endedSources (registeredAll 4096 map (pairClaims order)) }
+    ensures { result ≡ ended_sources (registered_all 4096 map (pair_claims order)) }
 {
     let mut starts = map.starts;
     let mut ends = map.ends;
@@ -194,7 +194,7 @@ fn register_pairs(map: MemoryMap, order: Order) -> Sources
 
 // What a tree's answer says of the order file that it came in.
 fn tree_verdict(answer: TreeAnswer) -> Verdict
-    ensures { result ≡ treeFault answer }
+    ensures { result ≡ tree_fault answer }
 {
     match answer {
         TreeAnswer::Done => Verdict::Accepted,
@@ -210,7 +210,7 @@ fn tree_verdict(answer: TreeAnswer) -> Verdict
 // Registers what an order file's list, tree and pairs claim in the empty map. A list that overflows the map is only refused once the tree
 // has been judged, since the tree's faults come before a full map.
 pub fn register_memory_from_kernel_args(file: &[u8], order: Order) -> Sources
-    ensures { result ≡ sourcesOf 4096 file.now order }
+    ensures { result ≡ sources_of 4096 file.now order }
 {
     let l = order.list;
     let t = order.tree;
@@ -251,7 +251,7 @@ fn finish(map: MemoryMap, low: Limit, high: Limit, slots: &mut [u64]) -> Report
 
 // The empty map beside a refusal, that of the areas too.
 fn not_started(refusal: Refusal) -> Start
-    ensures { result ≡ notStarted refusal }
+    ensures { result ≡ not_started refusal }
 {
     Start {
         map: MemoryMap::empty(),

@@ -10,139 +10,139 @@ use lib.ListN.{length, get_or, get_or-eq_default}
 use lib.Dec.{eqb}
 use borrow.Author.Tests.{eq-eqb, ne_eqb}
 use Rattle.words.specs.Bytes.{part_of, Finds}
-use Rattle.words.proofs.BytesLaws.{cond-elim, never}
+use Rattle.words.proofs.BytesLaws.{cond_elim, never}
 use Rattle.fdt.specs.Tree.{Nodes, none, node}
 use Rattle.nodes.specs.declared.Found.{Found}
 use Rattle.nodes.specs.declared.Found.TheVariants.{At, Nothing}
 use Rattle.nodes.specs.declared.Value.{Value}
 use Rattle.nodes.specs.declared.Value.TheVariants.{Here, Missing}
-use Rattle.nodes.specs.Nav.{propAt, childAt}
-use Rattle.nodes.specs.Path.{pathAt}
-use Rattle.nodes.specs.OnTree.{head_of, findK, kidsOf}
-use Rattle.nodes.proofs.SameLaws.{part-upto}
+use Rattle.nodes.specs.Nav.{prop_at, child_at}
+use Rattle.nodes.specs.Path.{path_at}
+use Rattle.nodes.specs.OnTree.{head_of, find_k, kids_of}
+use Rattle.nodes.proofs.SameLaws.{part_upto}
 use Rattle.reading.specs.Values.{value_of, held}
-use Rattle.subtree.specs.Names.{chosenName, aliasesName, stdoutPathName, compatibleName}
-use Rattle.subtree.specs.Subtree.{nodeAt, at, rootAt, propsOf, underRoot, pathTo}
-use Rattle.subtree.proofs.SubtreeLaws.{value-at, child-at, path-at, path-stands}
-use Rattle.text.specs.Strings.{stringIn, stringAt}
-use Rattle.text.proofs.StringLaws.{string-held}
+use Rattle.subtree.specs.Names.{chosen_name, aliases_name, stdout_path_name, compatible_name}
+use Rattle.subtree.specs.Subtree.{node_at, at, root_at, props_of, under_root, path_to}
+use Rattle.subtree.proofs.SubtreeLaws.{value_at, child_at_lem, path_at_lem, path_stands}
+use Rattle.text.specs.Strings.{string_in, string_at}
+use Rattle.text.proofs.StringLaws.{string_held}
 use Rattle.translation.specs.declared.Sought.TheVariants.{FirstReg}
 use Rattle.translation.specs.declared.Translated.{Translated}
 use Rattle.translation.specs.Translation.{translated}
 use Rattle.stdout.specs.declared.Uart.TheVariants.{NoUart}
-use Rattle.stdout.specs.Stdout.{beforeColon, aliased, named, stdoutBy, stdoutIn, isThere, uartAt, uartBy, uartOf}
+use Rattle.stdout.specs.Stdout.{before_colon, aliased, named, stdout_by, stdout_in, is_there, uart_at, uart_by, uart_of}
 
 -- ── Paths ──
 module _ (b n : List ℕ) where
   -- a path leads to the same place in the block and on the tree
-  pub path-head : (path : List ℕ) → pathAt b n path ≡ head_of (pathTo (rootAt b n) path)
-  path-head path = sym (path-stands b n path) ∙ ap head_of (path-at b n path)
+  pub path_head : (path : List ℕ) → path_at b n path ≡ head_of (path_to (root_at b n) path)
+  path_head path = sym (path_stands b n path) ∙ ap head_of (path_at_lem b n path)
 
   -- and the node there is the one that it names
-  path-back : (path : List ℕ) → at b n (head_of (pathTo (rootAt b n) path)) ≡ pathTo (rootAt b n) path
-  path-back path = ap (at b n) (sym (path-head path)) ∙ path-at b n path
+  path_back : (path : List ℕ) → at b n (head_of (path_to (root_at b n) path)) ≡ path_to (root_at b n) path
+  path_back path = ap (at b n) (sym (path_head path)) ∙ path_at_lem b n path
 
 -- ── A string of a node below the root ──
-module _ (b n : List ℕ) (root : ℕ) (is : nodeAt b n root ≡ rootAt b n) (name prop : List ℕ) (f : Found) (e : f ≡ childAt b n root name) where
-  child-under : at b n f ≡ underRoot name (rootAt b n)
-  child-under = ap (at b n) e ∙ child-at b n root name ∙ ap (λ (t : Nodes). findK name (kidsOf t)) is
+module _ (b n : List ℕ) (root : ℕ) (is : node_at b n root ≡ root_at b n) (name prop : List ℕ) (f : Found) (e : f ≡ child_at b n root name) where
+  child_under : at b n f ≡ under_root name (root_at b n)
+  child_under = ap (at b n) e ∙ child_at_lem b n root name ∙ ap (λ (t : Nodes). find_k name (kids_of t)) is
 
-  string-under : (q : ℕ) → f ≡ At q → (v : Value) → v ≡ stringAt b n q prop → held b v ≡ stringIn (value_of prop (propsOf (underRoot name (rootAt b n))))
-  string-under q g v h = rw (← child-under, g) (ap (held b) h ∙ string-held b n q prop ∙ ap stringIn (value-at b n q prop))
+  string_under : (q : ℕ) → f ≡ At q → (v : Value) → v ≡ string_at b n q prop → held b v ≡ string_in (value_of prop (props_of (under_root name (root_at b n))))
+  string_under q g v h = rw (← child_under, g) (ap (held b) h ∙ string_held b n q prop ∙ ap string_in (value_at b n q prop))
 
   -- what k makes of the string: no such child, no such string, or the bytes that are found
   module _ (k : Nodes → Option (List ℕ) → Nodes) where
-    pub string-nowhere : f ≡ Nothing → head_of (k (rootAt b n) nothing) ≡ head_of (k (rootAt b n) (stringIn (value_of prop (propsOf (underRoot name (rootAt b n))))))
-    unfolding stringIn value_of
-    string-nowhere g = rw (← child-under, g)
+    pub string_nowhere : f ≡ Nothing → head_of (k (root_at b n) nothing) ≡ head_of (k (root_at b n) (string_in (value_of prop (props_of (under_root name (root_at b n))))))
+    unfolding string_in value_of
+    string_nowhere g = rw (← child_under, g)
 
-    module _ (q : ℕ) (g : f ≡ At q) (v : Value) (h : v ≡ stringAt b n q prop) where
-      pub string-missing : v ≡ Missing
-          → head_of (k (rootAt b n) nothing) ≡ head_of (k (rootAt b n) (stringIn (value_of prop (propsOf (underRoot name (rootAt b n))))))
-      string-missing m = rw (← string-under q g v h, m)
+    module _ (q : ℕ) (g : f ≡ At q) (v : Value) (h : v ≡ string_at b n q prop) where
+      pub string_missing : v ≡ Missing
+          → head_of (k (root_at b n) nothing) ≡ head_of (k (root_at b n) (string_in (value_of prop (props_of (under_root name (root_at b n))))))
+      string_missing m = rw (← string_under q g v h, m)
 
-      pub string-here : (at len : ℕ) (s : List ℕ) → v ≡ Here at len → s ≡ part_of b at len
-          → head_of (k (rootAt b n) (some s)) ≡ head_of (k (rootAt b n) (stringIn (value_of prop (propsOf (underRoot name (rootAt b n))))))
-      string-here at len s m p = rw (← string-under q g v h, m, p)
+      pub string_here : (at len : ℕ) (s : List ℕ) → v ≡ Here at len → s ≡ part_of b at len
+          → head_of (k (root_at b n) (some s)) ≡ head_of (k (root_at b n) (string_in (value_of prop (props_of (under_root name (root_at b n))))))
+      string_here at len s m p = rw (← string_under q g v h, m, p)
 
 -- ── The node of a name ──
 module _ (t : Nodes) (s : List ℕ) where
-  pub named-path : get_or s 0 0 ≡ 47 → pathTo t s ≡ named t s
+  pub named_path : get_or s 0 0 ≡ 47 → path_to t s ≡ named t s
   unfolding named
-  named-path h = rw (eq-eqb _ _ h)
+  named_path h = rw (eq-eqb _ _ h)
 
-  pub named-alias : (get_or s 0 0 ≡ 47 → ⊥) → aliased t (stringIn (value_of s (propsOf (underRoot aliasesName t)))) ≡ named t s
+  pub named_alias : (get_or s 0 0 ≡ 47 → ⊥) → aliased t (string_in (value_of s (props_of (under_root aliases_name t)))) ≡ named t s
   unfolding named
-  named-alias h = rw (ne_eqb _ _ h)
+  named_alias h = rw (ne_eqb _ _ h)
 
-  pub named-empty : length s ≡ 0 → aliased t (stringIn (value_of s (propsOf (underRoot aliasesName t)))) ≡ named t s
-  named-empty h = let d = get_or-eq_default s 0 {n = 0} (omega arith) in named-alias (λ e. omega arith)
+  pub named_empty : length s ≡ 0 → aliased t (string_in (value_of s (props_of (under_root aliases_name t)))) ≡ named t s
+  named_empty h = let d = get_or-eq_default s 0 {n = 0} (omega arith) in named_alias (λ e. omega arith)
 
 -- ── The stdout node ──
-module _ (b n : List ℕ) (f : Found) (e : f ≡ pathAt b n (47 ∷ [])) where
+module _ (b n : List ℕ) (f : Found) (e : f ≡ path_at b n (47 ∷ [])) where
   -- the path `/` leads to the root
-  root-at : at b n f ≡ rootAt b n
-  unfolding pathTo
-  root-at = ap (at b n) e ∙ path-at b n (47 ∷ [])
+  root_at_lem : at b n f ≡ root_at b n
+  unfolding path_to
+  root_at_lem = ap (at b n) e ∙ path_at_lem b n (47 ∷ [])
 
-  pub root_is : (q : ℕ) → f ≡ At q → nodeAt b n q ≡ rootAt b n
-  root_is q g = ap (at b n) (sym g) ∙ root-at
+  pub root_is : (q : ℕ) → f ≡ At q → node_at b n q ≡ root_at b n
+  root_is q g = ap (at b n) (sym g) ∙ root_at_lem
 
-  pub stdout-rootless : f ≡ Nothing → Nothing ≡ head_of (stdoutIn (rootAt b n))
-  unfolding stdoutIn findK value_of stringIn
-  stdout-rootless g = rw (← root-at, g)
+  pub stdout_rootless : f ≡ Nothing → Nothing ≡ head_of (stdout_in (root_at b n))
+  unfolding stdout_in find_k value_of string_in
+  stdout_rootless g = rw (← root_at_lem, g)
 
 -- the name is the string up to the colon
-pub stdout-named : (t : Nodes) (s : List ℕ) (c : ℕ) (p : List ℕ) → Finds 58 s 0 c → p ≡ part_of s 0 c → head_of (named t p) ≡ head_of (stdoutBy t (some s))
-stdout-named t s c p f e =
+pub stdout_named : (t : Nodes) (s : List ℕ) (c : ℕ) (p : List ℕ) → Finds 58 s 0 c → p ≡ part_of s 0 c → head_of (named t p) ≡ head_of (stdout_by t (some s))
+stdout_named t s c p f e =
     let i = f.is in
     let u = f.upto (omega arith) in
     let z : c ≡ c - 0 = omega arith in
-    ap (λ (x : List ℕ). head_of (named t x)) (rw (← i) (part-upto s 0 c p (rw (← z) e) (omega arith) u))
+    ap (λ (x : List ℕ). head_of (named t x)) (rw (← i) (part_upto s 0 c p (rw (← z) e) (omega arith) u))
 
 module _ (b n : List ℕ) where
-  alias-at : (o : Option (List ℕ)) → at b n (head_of (aliased (rootAt b n) o)) ≡ aliased (rootAt b n) o
-  alias-at nothing = refl
-  alias-at (some path) = path-back b n _
+  alias_at : (o : Option (List ℕ)) → at b n (head_of (aliased (root_at b n) o)) ≡ aliased (root_at b n) o
+  alias_at nothing = refl
+  alias_at (some path) = path_back b n _
 
-  named-at : (s : List ℕ) → at b n (head_of (named (rootAt b n) s)) ≡ named (rootAt b n) s
+  named_at : (s : List ℕ) → at b n (head_of (named (root_at b n) s)) ≡ named (root_at b n) s
   unfolding named
-  named-at s =
-      cond-elim (λ (r : Nodes). at b n (head_of r) ≡ r) (eqb (get_or s 0 0) 47) _ _ (λ e. path-back b n s)
-      (λ e. alias-at (stringIn (value_of s (propsOf (underRoot aliasesName (rootAt b n))))))
+  named_at s =
+      cond_elim (λ (r : Nodes). at b n (head_of r) ≡ r) (eqb (get_or s 0 0) 47) _ _ (λ e. path_back b n s)
+      (λ e. alias_at (string_in (value_of s (props_of (under_root aliases_name (root_at b n))))))
 
   -- THE THEOREM: what is found is a node that stands, and the tree's
-  pub stdout-at : at b n (head_of (stdoutIn (rootAt b n))) ≡ stdoutIn (rootAt b n)
-  unfolding stdoutIn
-  stdout-at = go (stringIn (value_of stdoutPathName (propsOf (underRoot chosenName (rootAt b n)))))
+  pub stdout_at : at b n (head_of (stdout_in (root_at b n))) ≡ stdout_in (root_at b n)
+  unfolding stdout_in
+  stdout_at = go (string_in (value_of stdout_path_name (props_of (under_root chosen_name (root_at b n)))))
     where
-      go : (o : Option (List ℕ)) → at b n (head_of (stdoutBy (rootAt b n) o)) ≡ stdoutBy (rootAt b n) o
+      go : (o : Option (List ℕ)) → at b n (head_of (stdout_by (root_at b n) o)) ≡ stdout_by (root_at b n) o
       go nothing = refl
-      go (some s) = named-at (beforeColon s)
+      go (some s) = named_at (before_colon s)
 
 -- ── Its claim ──
-uart-by : (t k : Nodes) (q : ℕ) → head_of k ≡ At q
-    → uartBy t k ≡ cond (isThere (value_of compatibleName (propsOf k))) (uartAt (translated t q FirstReg)) NoUart
-uart-by t none q e = never (cc)
-uart-by t (node p nm ps kids rest) q e = let i : p ≡ q = cc in rw i
+uart_by_lem : (t k : Nodes) (q : ℕ) → head_of k ≡ At q
+    → uart_by t k ≡ cond (is_there (value_of compatible_name (props_of k))) (uart_at (translated t q FirstReg)) NoUart
+uart_by_lem t none q e = never (cc)
+uart_by_lem t (node p nm ps kids rest) q e = let i : p ≡ q = cc in rw i
 
-module _ (b n : List ℕ) (f : Found) (e : f ≡ head_of (stdoutIn (rootAt b n))) where
-  pub uart-nowhere : f ≡ Nothing → NoUart ≡ uartOf (rootAt b n)
-  unfolding uartOf
-  uart-nowhere g = rw (← stdout-at b n, ← e, g)
+module _ (b n : List ℕ) (f : Found) (e : f ≡ head_of (stdout_in (root_at b n))) where
+  pub uart_nowhere : f ≡ Nothing → NoUart ≡ uart_of (root_at b n)
+  unfolding uart_of
+  uart_nowhere g = rw (← stdout_at b n, ← e, g)
 
-  module _ (q : ℕ) (g : f ≡ At q) (v : Value) (h : v ≡ propAt b n q compatibleName) where
-    stdout-is : nodeAt b n q ≡ stdoutIn (rootAt b n)
-    stdout-is = ap (at b n) (sym g ∙ e) ∙ stdout-at b n
+  module _ (q : ℕ) (g : f ≡ At q) (v : Value) (h : v ≡ prop_at b n q compatible_name) where
+    stdout_is : node_at b n q ≡ stdout_in (root_at b n)
+    stdout_is = ap (at b n) (sym g ∙ e) ∙ stdout_at b n
 
-    uart-is : cond (isThere (held b v)) (uartAt (translated (rootAt b n) q FirstReg)) NoUart ≡ uartOf (rootAt b n)
-    unfolding uartOf
-    uart-is =
-        rw (h, value-at b n q compatibleName, stdout-is)
-        (sym (uart-by (rootAt b n) (stdoutIn (rootAt b n)) q (sym e ∙ g)))
+    uart_is : cond (is_there (held b v)) (uart_at (translated (root_at b n) q FirstReg)) NoUart ≡ uart_of (root_at b n)
+    unfolding uart_of
+    uart_is =
+        rw (h, value_at b n q compatible_name, stdout_is)
+        (sym (uart_by_lem (root_at b n) (stdout_in (root_at b n)) q (sym e ∙ g)))
 
-    pub uart-incompatible : v ≡ Missing → NoUart ≡ uartOf (rootAt b n)
-    uart-incompatible m = rw m at uart-is
+    pub uart_incompatible : v ≡ Missing → NoUart ≡ uart_of (root_at b n)
+    uart_incompatible m = rw m at uart_is
 
-    pub uart-translated : (at len : ℕ) (r : Translated) → v ≡ Here at len → r ≡ translated (rootAt b n) q FirstReg → uartAt r ≡ uartOf (rootAt b n)
-    uart-translated at len r m i = ap uartAt i ∙ (rw m at uart-is)
+    pub uart_translated : (at len : ℕ) (r : Translated) → v ≡ Here at len → r ≡ translated (root_at b n) q FirstReg → uart_at r ≡ uart_of (root_at b n)
+    uart_translated at len r m i = ap uart_at i ∙ (rw m at uart_is)

@@ -2,10 +2,10 @@
 ghost use Rattle.std.specs.Prelude.{◌≡◌};
 ghost use Rattle.nodes.specs.OnTree.{head_of};
 ghost use Rattle.reading.specs.Values.{value_of};
-ghost use Rattle.subtree.specs.Names.{aliasesName};
-ghost use Rattle.subtree.specs.Subtree.{rootAt, nodeAt, propsOf, underRoot};
-ghost use Rattle.text.specs.Strings.{stringIn};
-ghost use Rattle.stdout.specs.Stdout.{aliased, named, stdoutIn, uartOf};
+ghost use Rattle.subtree.specs.Names.{aliases_name};
+ghost use Rattle.subtree.specs.Subtree.{root_at, node_at, props_of, under_root};
+ghost use Rattle.text.specs.Strings.{string_in};
+ghost use Rattle.stdout.specs.Stdout.{aliased, named, stdout_in, uart_of};
 
 use cells::Region;
 use nodes::{Found, Value};
@@ -20,8 +20,8 @@ pub enum Uart {
 
 // The node that a name in /aliases stands for: its value is a path, of which nothing is cut.
 fn alias_node<'a>(structure: &'a [u8], strings: &'a [u8], root: usize, name: &'a [u8]) -> Found
-    requires { nodeAt structure.now strings.now root ≡ rootAt structure.now strings.now }
-    ensures { result ≡ head_of (aliased (rootAt structure.now strings.now) (stringIn (value_of name.now (propsOf (underRoot aliasesName (rootAt structure.now strings.now)))))) }
+    requires { node_at structure.now strings.now root ≡ root_at structure.now strings.now }
+    ensures { result ≡ head_of (aliased (root_at structure.now strings.now) (string_in (value_of name.now (props_of (under_root aliases_name (root_at structure.now strings.now)))))) }
 {
     let Found::At(aliases) = nodes::subnode(structure, strings, root, b"aliases") else {
         return Found::Nothing;
@@ -34,8 +34,8 @@ fn alias_node<'a>(structure: &'a [u8], strings: &'a [u8], root: usize, name: &'a
 
 // The node of a name: a path where it begins with `/`, else an alias.
 fn node_named<'a>(structure: &'a [u8], strings: &'a [u8], root: usize, name: &'a [u8]) -> Found
-    requires { nodeAt structure.now strings.now root ≡ rootAt structure.now strings.now }
-    ensures { result ≡ head_of (named (rootAt structure.now strings.now) name.now) }
+    requires { node_at structure.now strings.now root ≡ root_at structure.now strings.now }
+    ensures { result ≡ head_of (named (root_at structure.now strings.now) name.now) }
 {
     if name.len() == 0 {
         return alias_node(structure, strings, root, name);
@@ -48,7 +48,7 @@ fn node_named<'a>(structure: &'a [u8], strings: &'a [u8], root: usize, name: &'a
 
 // The stdout node.
 pub fn diag_uart_node<'a>(structure: &'a [u8], strings: &'a [u8]) -> Found
-    ensures { result ≡ head_of (stdoutIn (rootAt structure.now strings.now)) }
+    ensures { result ≡ head_of (stdout_in (root_at structure.now strings.now)) }
 {
     let Found::At(root) = nodes::path_offset(structure, strings, b"/") else {
         return Found::Nothing;
@@ -66,7 +66,7 @@ pub fn diag_uart_node<'a>(structure: &'a [u8], strings: &'a [u8]) -> Found
 
 // The first registers of the stdout node, where it has `compatible`, translated.
 pub fn diag_uart_range<'a>(structure: &'a [u8], strings: &'a [u8]) -> Uart
-    ensures { result ≡ uartOf (rootAt structure.now strings.now) }
+    ensures { result ≡ uart_of (root_at structure.now strings.now) }
 {
     let Found::At(uart) = diag_uart_node(structure, strings) else {
         return Uart::NoUart;

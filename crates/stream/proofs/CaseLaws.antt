@@ -4,8 +4,8 @@ use mathlib.Core.Logic.{dite}
 use native.Mathlib.Decide.{dec_le}
 use Rattle.stream.specs.Cases.{NumberAt, Three, Tells, Ahead}
 
-pub number-ahead : (l : List ℕ) (i n p r : ℕ) → Ahead l i n p → NumberAt l p r → NumberAt l (i + n) r
-number-ahead l i n p r ahead found =
+pub number_ahead : (l : List ℕ) (i n p r : ℕ) → Ahead l i n p → NumberAt l p r → NumberAt l (i + n) r
+number_ahead l i n p r ahead found =
     (λ h. let e : p ≡ i + n = ahead.0 (omega arith) in rw e at (found.0 (omega arith)), λ h. found.1 (behind h (dec_le (i + n) (length l)))) where
       behind : length l < i + n + 8 → Dec (i + n ≤ length l) → length l < p + 8
       behind h (yes k) = omega (arith, ahead.0 k)
@@ -20,11 +20,11 @@ denied h = (λ e. let z : ◌≡◌ {A = ℕ} 0 1 = cc in absurd (omega arith), 
 
 -- three numbers that were read, against three that may stand there
 module _ (l : List ℕ) (i a b c : ℕ) where
-  pub first-other : (x : ℕ) → NumberAt l i x → (x ≡ a → ⊥) → Tells false (Three l i a b c)
-  first-other x p other = denied (λ t. other (one_number l i x a p t.0))
+  pub first_other : (x : ℕ) → NumberAt l i x → (x ≡ a → ⊥) → Tells false (Three l i a b c)
+  first_other x p other = denied (λ t. other (one_number l i x a p t.0))
 
-  pub second-other : (y : ℕ) → NumberAt l (i + 8) y → (y ≡ b → ⊥) → Tells false (Three l i a b c)
-  second-other y p other = denied (λ t. other (one_number l (i + 8) y b p t.1))
+  pub second_other : (y : ℕ) → NumberAt l (i + 8) y → (y ≡ b → ⊥) → Tells false (Three l i a b c)
+  second_other y p other = denied (λ t. other (one_number l (i + 8) y b p t.1))
 
   pub third-tells :
       (x y z : ℕ) → NumberAt l i x → x ≡ a → NumberAt l (i + 8) y → y ≡ b → NumberAt l (i + 16) z → Tells (eqb z c) (Three l i a b c)

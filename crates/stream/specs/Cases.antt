@@ -39,8 +39,8 @@ abbrev pub more : ℕ → ℕ
 more n = (n + 1) % 2 ^ 64
 
 -- with one case more, and the part of it that differs, or 0; the first that differs is kept
-unfoldable pub andCase : Tally → ℕ → Tally
-andCase t part =
+unfoldable pub and_case : Tally → ℕ → Tally
+and_case t part =
     cond (part == 0)
     (record { cases = more t.cases; differ = t.differ; case = t.case; part = t.part; cut = t.cut })
     (cond (t.differ == 0)

@@ -2,7 +2,7 @@
 // numbers in them, and the tally of what differs. Each program lends a space for the bytes that has room for its largest
 // case. No contract can say what is read or written, so `refill` and `report` have none.
 ghost use Rattle.std.specs.Prelude.{◌≡◌, ◌+◌, ◌*◌, ◌<◌};
-ghost use Rattle.stream.specs.Cases.{NumberAt, Three, Tells, Ahead, none, andCase};
+ghost use Rattle.stream.specs.Cases.{NumberAt, Three, Tells, Ahead, none, and_case};
 
 use standard::Input;
 
@@ -144,7 +144,7 @@ pub fn fresh() -> Tally
 
 // With one case more, and the part of it that differs, or 0.
 pub fn counted(tally: Tally, part: u64) -> Tally
-    ensures { result ≡ andCase tally part }
+    ensures { result ≡ and_case tally part }
 {
     let mut t = tally;
     t.cases = std::num::wrapping_add_u64(tally.cases, 1);

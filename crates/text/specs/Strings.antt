@@ -7,7 +7,7 @@ use Rattle.cells.specs.declared.StringValue.TheVariants.{Ends, Endless}
 use Rattle.cells.specs.Text.{text_of}
 use Rattle.nodes.specs.declared.Value.{Value}
 use Rattle.nodes.specs.declared.Value.TheVariants.{Here, Missing}
-use Rattle.nodes.specs.Nav.{propAt}
+use Rattle.nodes.specs.Nav.{prop_at}
 
 -- ── On the tree ──
 abbrev pub up_to : List ℕ → StringValue → Option (List ℕ)
@@ -15,22 +15,22 @@ up_to v (Ends e) = some (take e v)
 up_to v Endless = nothing
 
 -- the string in the value of a property that may be there
-unfoldable pub stringIn : Option (List ℕ) → Option (List ℕ)
-stringIn nothing = nothing
-stringIn (some v) = up_to v (text_of v)
+unfoldable pub string_in : Option (List ℕ) → Option (List ℕ)
+string_in nothing = nothing
+string_in (some v) = up_to v (text_of v)
 
 -- ── In the block ──
-abbrev pub endsBy : ℕ → StringValue → Value
-endsBy at (Ends e) = Here at e
-endsBy at Endless = Missing
+abbrev pub ends_by : ℕ → StringValue → Value
+ends_by at (Ends e) = Here at e
+ends_by at Endless = Missing
 
-abbrev pub stringBy : List ℕ → Value → Value
-stringBy b (Here at len) = endsBy at (text_of (part_of b at len))
-stringBy b Missing = Missing
+abbrev pub string_by : List ℕ → Value → Value
+string_by b (Here at len) = ends_by at (text_of (part_of b at len))
+string_by b Missing = Missing
 
 -- where the string of a node's property stands, and how long it is
-unfoldable pub stringAt : List ℕ → List ℕ → ℕ → List ℕ → Value
-stringAt b n q name = stringBy b (propAt b n q name)
+unfoldable pub string_at : List ℕ → List ℕ → ℕ → List ℕ → Value
+string_at b n q name = string_by b (prop_at b n q name)
 
 -- ── One string in another ──
 unfoldable pub starts_with : List ℕ → List ℕ → Bool

@@ -1,13 +1,13 @@
 // String values of properties: up to their first zero byte.
 ghost use Rattle.std.specs.Prelude.{◌≡◌};
-ghost use Rattle.text.specs.Strings.{stringAt, contains};
+ghost use Rattle.text.specs.Strings.{string_at, contains};
 
 use cells::StringValue;
 use nodes::Value;
 
 // The string in a property of the node at a place: where it stands and how long it is; nothing where no zero byte ends it.
 pub fn string_of<'a>(structure: &'a [u8], strings: &'a [u8], node: usize, name: &'a [u8]) -> Value
-    ensures { result ≡ stringAt structure.now strings.now node name.now }
+    ensures { result ≡ string_at structure.now strings.now node name.now }
 {
     let Value::Here(at, len) = nodes::getprop(structure, strings, node, name) else {
         return Value::Missing;

@@ -14,152 +14,152 @@ use Rattle.cells.specs.declared.CellCount.{CellCount}
 use Rattle.cells.specs.declared.Region.{Region}
 use Rattle.cells.specs.declared.RegRow.{RegRow}
 use Rattle.cells.specs.declared.RegRow.TheVariants.{NoReg, PastReg, RegAt}
-use Rattle.cells.specs.Rows.{Table, unreadable, rows, reg_of, rangesOf, regRow}
+use Rattle.cells.specs.Rows.{Table, unreadable, rows, reg_of, ranges_of, reg_row}
 use Rattle.fdt.specs.Tree.{Nodes, none, node, count, height}
 use Rattle.nodes.specs.declared.Found.{Found}
 use Rattle.nodes.specs.declared.Found.TheVariants.{At, Nothing}
 use Rattle.nodes.specs.declared.Value.{Value}
 use Rattle.nodes.specs.declared.Value.TheVariants.{Here, Missing}
-use Rattle.nodes.specs.Nav.{propAt, first_at, next_at}
-use Rattle.nodes.specs.Path.{pathAt}
-use Rattle.nodes.specs.Cells.{countAt, addressCells, sizeCells}
-use Rattle.nodes.specs.OnTree.{head_of, kidsOf}
+use Rattle.nodes.specs.Nav.{prop_at, first_at, next_at}
+use Rattle.nodes.specs.Path.{path_at}
+use Rattle.nodes.specs.Cells.{count_at, address_cells, size_cells}
+use Rattle.nodes.specs.OnTree.{head_of, kids_of}
 use Rattle.reading.specs.Values.{value_of, held, count_of}
 use Rattle.windows.specs.declared.Window.{Window}
 use Rattle.windows.specs.declared.Window.TheVariants.{Nowhere}
 use Rattle.windows.specs.Window.{reach, window}
-use Rattle.subtree.specs.Subtree.{nodeAt, at, rootAt, propsOf, rest_of, pathTo}
-use Rattle.subtree.proofs.SubtreeLaws.{kids-at, rest_at, value-at, count_at, first-stands, next-stands, path-at, few}
+use Rattle.subtree.specs.Subtree.{node_at, at, root_at, props_of, rest_of, path_to}
+use Rattle.subtree.proofs.SubtreeLaws.{kids_at, rest_at, value_at, count_at_lem, first_stands, next_stands, path_at_lem, few}
 use Rattle.translation.specs.declared.Sought.{Sought}
 use Rattle.translation.specs.declared.Sought.TheVariants.{FirstReg}
 use Rattle.translation.specs.declared.Search.{Search}
 use Rattle.translation.specs.declared.Search.TheVariants.{Gone, Lost, On}
 use Rattle.translation.specs.declared.Translated.{Translated}
 use Rattle.translation.specs.declared.Translated.TheVariants.{Found as Reached, NoAddress}
-use Rattle.subtree.specs.Names.{regName, rangesName}
-use Rattle.translation.specs.Translation.{address_of, size_of, over, arrived, trail, firstRow, start_of, translated}
-use Rattle.translation.specs.Search.{begunAt, viaWindow, upThrough, orOn, tried, searched, finished, Begins, rowLeft, nodeLeft}
-use Rattle.translation.proofs.SearchLaws.{tried-on, on-count, search_is}
+use Rattle.subtree.specs.Names.{reg_name, ranges_name}
+use Rattle.translation.specs.Translation.{address_of, size_of, over, arrived, trail, first_row, start_of, translated}
+use Rattle.translation.specs.Search.{begun_at, via_window, up_through, or_on, tried, searched, finished, Begins, row_left, node_left}
+use Rattle.translation.proofs.SearchLaws.{tried_on, on_count, search_is}
 
 -- ── The end ──
 module _ (f : Search) (x size k : ℕ) (e : f ≡ Gone x size k) where
-  pub ends-below : x + reach size ≤ 2 ^ 64 - 1 → Reached (record { address = x; size = size }) k ≡ finished f
+  pub ends_below : x + reach size ≤ 2 ^ 64 - 1 → Reached (record { address = x; size = size }) k ≡ finished f
   unfolding finished arrived
-  ends-below h = rw (e, le-leb (x + reach size) (2 ^ 64 - 1) h)
+  ends_below h = rw (e, le-leb (x + reach size) (2 ^ 64 - 1) h)
 
-  pub ends-past : 2 ^ 64 - 1 < x + reach size → NoAddress ≡ finished f
+  pub ends_past : 2 ^ 64 - 1 < x + reach size → NoAddress ≡ finished f
   unfolding finished arrived
-  ends-past h = rw (e, lt-leb (x + reach size) (2 ^ 64 - 1) h)
+  ends_past h = rw (e, lt-leb (x + reach size) (2 ^ 64 - 1) h)
 
 -- ── Through a bus ──
 
 -- w is what the bus at hand does with the region that its children gave
-pub up-gone : (W : ℕ → ℕ → Window) (f : Search) (x size k : ℕ) (v w : Window) → f ≡ Gone x size k → v ≡ W x size → v ≡ w → viaWindow w size k ≡ upThrough W f
-up-gone W f x size k v w e h i = rw (e, ← h, i)
+pub up_gone : (W : ℕ → ℕ → Window) (f : Search) (x size k : ℕ) (v w : Window) → f ≡ Gone x size k → v ≡ W x size → v ≡ w → via_window w size k ≡ up_through W f
+up_gone W f x size k v w e h i = rw (e, ← h, i)
 
 -- ── A node's properties ──
 
 -- a row of `reg` as a beginning
-abbrev pub rowBegun : RegRow → ℕ → Search
-rowBegun (RegAt r) k = Gone r.address r.size k
-rowBegun PastReg k = Lost
-rowBegun NoReg k = Lost
+abbrev pub row_begun : RegRow → ℕ → Search
+row_begun (RegAt r) k = Gone r.address r.size k
+row_begun PastReg k = Lost
+row_begun NoReg k = Lost
 
-row-begun : (t : Table Region) (k : ℕ) → rowBegun (regRow t 0) k ≡ begunAt (firstRow t) k
-row-begun unreadable k = refl
-row-begun (rows []) k = refl
-row-begun (rows (r ∷ l)) k = refl
+row_begun_lem : (t : Table Region) (k : ℕ) → row_begun (reg_row t 0) k ≡ begun_at (first_row t) k
+row_begun_lem unreadable k = refl
+row_begun_lem (rows []) k = refl
+row_begun_lem (rows (r ∷ l)) k = refl
 
 module _ (b n : List ℕ) (q : ℕ) where
   -- v is what the lookup gave, w the bytes there
-  there : (name w : List ℕ) (v : Value) (at len : ℕ) → v ≡ propAt b n q name → v ≡ Here at len → w ≡ part_of b at len
-      → value_of name (propsOf (nodeAt b n q)) ≡ some w
-  there name w v at len e i h = sym (value-at b n q name) ∙ ap (held b) (sym e ∙ i) ∙ ap some (sym h)
+  there : (name w : List ℕ) (v : Value) (at len : ℕ) → v ≡ prop_at b n q name → v ≡ Here at len → w ≡ part_of b at len
+      → value_of name (props_of (node_at b n q)) ≡ some w
+  there name w v at len e i h = sym (value_at b n q name) ∙ ap (held b) (sym e ∙ i) ∙ ap some (sym h)
 
-  absent : (name : List ℕ) (v : Value) → v ≡ propAt b n q name → v ≡ Missing → value_of name (propsOf (nodeAt b n q)) ≡ nothing
-  absent name v e i = sym (value-at b n q name) ∙ ap (held b) (sym e ∙ i)
+  absent : (name : List ℕ) (v : Value) → v ≡ prop_at b n q name → v ≡ Missing → value_of name (props_of (node_at b n q)) ≡ nothing
+  absent name v e i = sym (value_at b n q name) ∙ ap (held b) (sym e ∙ i)
 
   -- the target: its first row of `reg`, by its parent's cells
-  module _ (s : Sought) (a c : CellCount) (k : ℕ) (first : s ≡ FirstReg) (v : Value) (e : v ≡ propAt b n q regName) where
-    pub begins-row : (w : List ℕ) (at len : ℕ) (row r : RegRow) → v ≡ Here at len → w ≡ part_of b at len → row ≡ regRow (reg_of a c w) 0 → row ≡ r
-        → rowBegun r k ≡ begunAt (start_of s a c (value_of regName (propsOf (nodeAt b n q)))) k
-    begins-row w at len row r i h j l = rw (first, there regName w v at len e i h, ← l, j) (row-begun (reg_of a c w) k)
+  module _ (s : Sought) (a c : CellCount) (k : ℕ) (first : s ≡ FirstReg) (v : Value) (e : v ≡ prop_at b n q reg_name) where
+    pub begins_row : (w : List ℕ) (at len : ℕ) (row r : RegRow) → v ≡ Here at len → w ≡ part_of b at len → row ≡ reg_row (reg_of a c w) 0 → row ≡ r
+        → row_begun r k ≡ begun_at (start_of s a c (value_of reg_name (props_of (node_at b n q)))) k
+    begins_row w at len row r i h j l = rw (first, there reg_name w v at len e i h, ← l, j) (row_begun_lem (reg_of a c w) k)
 
-    pub begins-not : v ≡ Missing → Lost ≡ begunAt (start_of s a c (value_of regName (propsOf (nodeAt b n q)))) k
-    begins-not i = rw (first, absent regName v e i)
+    pub begins_not : v ≡ Missing → Lost ≡ begun_at (start_of s a c (value_of reg_name (props_of (node_at b n q)))) k
+    begins_not i = rw (first, absent reg_name v e i)
 
   -- a count of cells that the node states for its children
-  stated : (name : List ℕ) (own : CellCount) → own ≡ countAt b n q name → own ≡ count_of (value_of name (propsOf (nodeAt b n q)))
-  stated name own e = e ∙ count_at b n q name
+  stated : (name : List ℕ) (own : CellCount) → own ≡ count_at b n q name → own ≡ count_of (value_of name (props_of (node_at b n q)))
+  stated name own e = e ∙ count_at_lem b n q name
 
   -- the search from the first child on, by the cells that the node states, is the search among its children
-  below : (target : ℕ) (s : Sought) (k : ℕ) (f : Found) (a c : CellCount) (inner : Search) → f ≡ first_at b n q → a ≡ countAt b n q addressCells
-      → c ≡ countAt b n q sizeCells → inner ≡ searched target s (at b n f) a c k
-      → inner ≡ searched target s (kidsOf (nodeAt b n q)) (address_of (propsOf (nodeAt b n q))) (size_of (propsOf (nodeAt b n q))) k
+  below : (target : ℕ) (s : Sought) (k : ℕ) (f : Found) (a c : CellCount) (inner : Search) → f ≡ first_at b n q → a ≡ count_at b n q address_cells
+      → c ≡ count_at b n q size_cells → inner ≡ searched target s (at b n f) a c k
+      → inner ≡ searched target s (kids_of (node_at b n q)) (address_of (props_of (node_at b n q))) (size_of (props_of (node_at b n q))) k
   unfolding address_of size_of
-  below target s k f a c inner e i j h = rw (kids-at b n q, ← e, ← stated addressCells a i, ← stated sizeCells c j) h
+  below target s k f a c inner e i j h = rw (kids_at b n q, ← e, ← stated address_cells a i, ← stated size_cells c j) h
 
   -- a bus: its `ranges`, by its own cells and its parent's
-  module _ (up : CellCount) (x size : ℕ) (v : Value) (e : v ≡ propAt b n q rangesName) where
-    pub over-here : (w : List ℕ) (at len : ℕ) (a c : CellCount) (r : Window) → v ≡ Here at len → w ≡ part_of b at len
-        → a ≡ countAt b n q addressCells → c ≡ countAt b n q sizeCells → r ≡ window false (rangesOf a up c w) x size
-        → r ≡ over (propsOf (nodeAt b n q)) up x size
+  module _ (up : CellCount) (x size : ℕ) (v : Value) (e : v ≡ prop_at b n q ranges_name) where
+    pub over_here : (w : List ℕ) (at len : ℕ) (a c : CellCount) (r : Window) → v ≡ Here at len → w ≡ part_of b at len
+        → a ≡ count_at b n q address_cells → c ≡ count_at b n q size_cells → r ≡ window false (ranges_of a up c w) x size
+        → r ≡ over (props_of (node_at b n q)) up x size
     unfolding over address_of size_of
-    over-here w at len a c r i h j l o = rw (there rangesName w v at len e i h, ← stated addressCells a j, ← stated sizeCells c l) o
+    over_here w at len a c r i h j l o = rw (there ranges_name w v at len e i h, ← stated address_cells a j, ← stated size_cells c l) o
 
-    pub over-not : v ≡ Missing → Nowhere ≡ over (propsOf (nodeAt b n q)) up x size
+    pub over_not : v ≡ Missing → Nowhere ≡ over (props_of (node_at b n q)) up x size
     unfolding over
-    over-not i = rw (absent rangesName v e i)
+    over_not i = rw (absent ranges_name v e i)
 
 -- ── A node that stands ──
 module _ (q : ℕ) where
-  counted : (t : Nodes) → head_of t ≡ At q → count t ≡ suc (count (kidsOf t) + count (rest_of t))
+  counted : (t : Nodes) → head_of t ≡ At q → count t ≡ suc (count (kids_of t) + count (rest_of t))
   counted none e = never (cc)
   counted (node p nm ps kids rest) e = refl
 
-  raised : (t : Nodes) → head_of t ≡ At q → height t ≡ max (suc (height (kidsOf t))) (height (rest_of t))
+  raised : (t : Nodes) → head_of t ≡ At q → height t ≡ max (suc (height (kids_of t))) (height (rest_of t))
   raised none e = never (cc)
   raised (node p nm ps kids rest) e = refl
 
-  searched-node : (target : ℕ) (s : Sought) (a c : CellCount) (k : ℕ) (t : Nodes) → head_of t ≡ At q
+  searched_node : (target : ℕ) (s : Sought) (a c : CellCount) (k : ℕ) (t : Nodes) → head_of t ≡ At q
       → searched target s t a c k
-      ≡ orOn (tried target s q (propsOf t) a c k (searched target s (kidsOf t) (address_of (propsOf t)) (size_of (propsOf t)) (k + 1)))
+      ≡ or_on (tried target s q (props_of t) a c k (searched target s (kids_of t) (address_of (props_of t)) (size_of (props_of t)) (k + 1)))
       (λ m. searched target s (rest_of t) a c m)
   unfolding searched
-  searched-node target s a c k none e = never (cc)
-  searched-node target s a c k (node p nm ps kids rest) e = let z : p ≡ q = cc in rw z
+  searched_node target s a c k none e = never (cc)
+  searched_node target s a c k (node p nm ps kids rest) e = let z : p ≡ q = cc in rw z
 
 module _ {b n : List ℕ} {q k : ℕ} (p : Begins b n (At q) k) where
   -- the number of the node itself
   pub numbered : k + 1 ≤ length b + 1
-  numbered = let z = counted q (nodeAt b n q) p.stands in omega arith
+  numbered = let z = counted q (node_at b n q) p.stands in omega arith
 
   -- its children begin, and have a level less
-  pub children : (f : Found) → f ≡ first_at b n q → Begins b n f (k + 1) × (rowLeft (at b n f) < nodeLeft (nodeAt b n q))
+  pub children : (f : Found) → f ≡ first_at b n q → Begins b n f (k + 1) × (row_left (at b n f) < node_left (node_at b n q))
   children f e =
-      let z = counted q (nodeAt b n q) p.stands in
-      let y : kidsOf (nodeAt b n q) ≡ at b n f = kids-at b n q ∙ ap (at b n) (sym e) in
-      let w : count (kidsOf (nodeAt b n q)) ≡ count (at b n f) = ap count y in
-      let h : height (kidsOf (nodeAt b n q)) ≡ height (at b n f) = ap height y in
-      (record { stands = rw e (first-stands b n q); room = omega arith }, omega arith)
+      let z = counted q (node_at b n q) p.stands in
+      let y : kids_of (node_at b n q) ≡ at b n f = kids_at b n q ∙ ap (at b n) (sym e) in
+      let w : count (kids_of (node_at b n q)) ≡ count (at b n f) = ap count y in
+      let h : height (kids_of (node_at b n q)) ≡ height (at b n f) = ap height y in
+      (record { stands = rw e (first_stands b n q); room = omega arith }, omega arith)
 
 module _ (b n : List ℕ) (q target : ℕ) (s : Sought) (a c : CellCount) (k : ℕ) where
   -- what is to be said of the node at q
   abbrev pub Tried : Search → Type 0
   Tried r =
-      r ≡ tried target s q (propsOf (nodeAt b n q)) a c k
-      (searched target s (kidsOf (nodeAt b n q)) (address_of (propsOf (nodeAt b n q))) (size_of (propsOf (nodeAt b n q))) (k + 1))
+      r ≡ tried target s q (props_of (node_at b n q)) a c k
+      (searched target s (kids_of (node_at b n q)) (address_of (props_of (node_at b n q))) (size_of (props_of (node_at b n q))) (k + 1))
 
-  pub is-target : (r : Search) → q ≡ target → r ≡ begunAt (start_of s a c (value_of regName (propsOf (nodeAt b n q)))) (k + 1) → Tried r
+  pub is_target : (r : Search) → q ≡ target → r ≡ begun_at (start_of s a c (value_of reg_name (props_of (node_at b n q)))) (k + 1) → Tried r
   unfolding tried
-  is-target r e h = rw (eq-eqb q target e) h
+  is_target r e h = rw (eq-eqb q target e) h
 
   -- o and z are the node's own cells
-  pub is-other : (f : Found) (o z : CellCount) (inner r : Search) → (q ≡ target → ⊥) → f ≡ first_at b n q → o ≡ countAt b n q addressCells
-      → z ≡ countAt b n q sizeCells → inner ≡ searched target s (at b n f) o z (k + 1)
-      → r ≡ upThrough (λ x size. over (propsOf (nodeAt b n q)) a x size) inner → Tried r
+  pub is_other : (f : Found) (o z : CellCount) (inner r : Search) → (q ≡ target → ⊥) → f ≡ first_at b n q → o ≡ count_at b n q address_cells
+      → z ≡ count_at b n q size_cells → inner ≡ searched target s (at b n f) o z (k + 1)
+      → r ≡ up_through (λ x size. over (props_of (node_at b n q)) a x size) inner → Tried r
   unfolding tried
-  is-other f o z inner r ne e i j h u = rw (ne_eqb q target ne, ← below b n q target s (k + 1) f o z inner e i j h) u
+  is_other f o z inner r ne e i j h u = rw (ne_eqb q target ne, ← below b n q target s (k + 1) f o z inner e i j h) u
 
 -- ── The nodes in a row ──
 
@@ -178,43 +178,43 @@ module _ {b n : List ℕ} {target : ℕ} {s : Sought} {a c : CellCount} {first :
   none_left e = sym (rw e at g.same)
 
   module _ (q : ℕ) (e : child ≡ At q) where
-    pub node-begins : Begins b n (At q) number × (nodeLeft (nodeAt b n q) < rowLeft (at b n first))
-    node-begins =
-        let f : height (nodeAt b n q) ≤ height (at b n first) = rw e at g.lower in
+    pub node_begins : Begins b n (At q) number × (node_left (node_at b n q) < row_left (at b n first))
+    node_begins =
+        let f : height (node_at b n q) ≤ height (at b n first) = rw e at g.lower in
         let i : Begins b n (At q) number = rw e at g.begins in
-        let z = raised q (nodeAt b n q) i.stands in
+        let z = raised q (node_at b n q) i.stands in
         (i, omega arith)
 
     module _ (r : Search) (h : Tried b n q target s a c number r) where
       -- x is what the node gave: that is the answer, or the nodes after it have it
-      pub goes_on : (x : Search) → r ≡ x → orOn x (λ m. searched target s (rest_of (nodeAt b n q)) a c m) ≡ searched target s (at b n first) a c before
+      pub goes_on : (x : Search) → r ≡ x → or_on x (λ m. searched target s (rest_of (node_at b n q)) a c m) ≡ searched target s (at b n first) a c before
       goes_on x i =
-          ap (λ (y : Search). orOn y (λ m. searched target s (rest_of (nodeAt b n q)) a c m)) (sym i ∙ h)
-          ∙ sym (searched-node q target s a c number (nodeAt b n q) node-begins.0.stands) ∙ sym (rw e at g.same)
+          ap (λ (y : Search). or_on y (λ m. searched target s (rest_of (node_at b n q)) a c m)) (sym i ∙ h)
+          ∙ sym (searched_node q target s a c number (node_at b n q) node_begins.0.stands) ∙ sym (rw e at g.same)
 
       module _ (m : ℕ) (i : r ≡ On m) (next : Found) (j : next ≡ next_at b n q) where
-        after : rest_of (nodeAt b n q) ≡ at b n next
+        after : rest_of (node_at b n q) ≡ at b n next
         after = rest_at b n q ∙ ap (at b n) (sym j)
 
         -- all nodes of this one were counted
         passed : m + count (at b n next) ≡ number + count (at b n child)
         passed =
-            let k = on-count target s (kidsOf (nodeAt b n q)) _ _ (number + 1) m (tried-on target s q _ a c number _ m (sym h ∙ i)) in
-            let z = counted q (nodeAt b n q) node-begins.0.stands in
+            let k = on_count target s (kids_of (node_at b n q)) _ _ (number + 1) m (tried_on target s q _ a c number _ m (sym h ∙ i)) in
+            let z = counted q (node_at b n q) node_begins.0.stands in
             rw (e, ← after) (omega arith)
 
         pub less : count (at b n next) < count (at b n child)
-        less = let z = counted q (nodeAt b n q) node-begins.0.stands in rw (e, ← after) (omega arith)
+        less = let z = counted q (node_at b n q) node_begins.0.stands in rw (e, ← after) (omega arith)
 
         pub again : Goes b n target s a c first before next m
         again =
             let l = less in
             let o = passed in
-            let z = raised q (nodeAt b n q) node-begins.0.stands in
-            let w : height (nodeAt b n q) ≤ height (at b n first) = rw e at g.lower in
-            let h : height (rest_of (nodeAt b n q)) ≡ height (at b n next) = ap height after in
+            let z = raised q (node_at b n q) node_begins.0.stands in
+            let w : height (node_at b n q) ≤ height (at b n first) = rw e at g.lower in
+            let h : height (rest_of (node_at b n q)) ≡ height (at b n next) = ap height after in
             record {
-              begins = record { stands = rw j (next-stands b n q); room = omega (arith, g.begins.room) };
+              begins = record { stands = rw j (next_stands b n q); room = omega (arith, g.begins.room) };
               lower = omega arith;
               same = sym (goes_on (On m) i) ∙ ap (λ (t : Nodes). searched target s t a c m) after;
             }
@@ -222,20 +222,20 @@ module _ {b n : List ℕ} {target : ℕ} {s : Sought} {a c : CellCount} {first :
 -- ── The whole tree ──
 
 -- at the root's first child no node was tried, and there are no more nodes than bytes
-pub root-begins : {b n : List ℕ} {f : Found} (q : ℕ) → f ≡ first_at b n q → Begins b n f 0
-root-begins {b} {n} {f} q e = let z = few b n f in record { stands = rw e (first-stands b n q); room = omega arith }
+pub root_begins : {b n : List ℕ} {f : Found} (q : ℕ) → f ≡ first_at b n q → Begins b n f 0
+root_begins {b} {n} {f} q e = let z = few b n f in record { stands = rw e (first_stands b n q); room = omega arith }
 
-module _ (b n : List ℕ) (target : ℕ) (s : Sought) (v : Found) (e : v ≡ pathAt b n (47 ∷ [])) where
-  root_is : rootAt b n ≡ at b n v
-  unfolding pathTo
-  root_is = sym (path-at b n (47 ∷ [])) ∙ ap (at b n) (sym e)
+module _ (b n : List ℕ) (target : ℕ) (s : Sought) (v : Found) (e : v ≡ path_at b n (47 ∷ [])) where
+  root_is : root_at b n ≡ at b n v
+  unfolding path_to
+  root_is = sym (path_at_lem b n (47 ∷ [])) ∙ ap (at b n) (sym e)
 
-  pub no-root : v ≡ Nothing → NoAddress ≡ translated (rootAt b n) target s
+  pub no_root : v ≡ Nothing → NoAddress ≡ translated (root_at b n) target s
   unfolding translated trail
-  no-root i = rw (root_is, i)
+  no_root i = rw (root_is, i)
 
   module _ (q : ℕ) (i : v ≡ At q) (f : Found) (j : f ≡ first_at b n q) where
-    pub from-root : (a c : CellCount) (inner : Search) (r : Translated) → a ≡ countAt b n q addressCells → c ≡ countAt b n q sizeCells
-        → inner ≡ searched target s (at b n f) a c 0 → r ≡ finished inner → r ≡ translated (rootAt b n) target s
-    from-root a c inner r k l h o =
-        rw (root_is, i, ← search_is (nodeAt b n q) target s, ← below b n q target s 0 f a c inner j k l h) o
+    pub from_root : (a c : CellCount) (inner : Search) (r : Translated) → a ≡ count_at b n q address_cells → c ≡ count_at b n q size_cells
+        → inner ≡ searched target s (at b n f) a c 0 → r ≡ finished inner → r ≡ translated (root_at b n) target s
+    from_root a c inner r k l h o =
+        rw (root_is, i, ← search_is (node_at b n q) target s, ← below b n q target s 0 f a c inner j k l h) o

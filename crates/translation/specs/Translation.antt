@@ -3,17 +3,17 @@ use Rattle.std.specs.Prelude.{ℕ, ◌+◌, ◌-◌, ◌^◌, List, [], ◌∷�
 use Rattle.std.proofs.Math.Option.{Option, some, none as nothing}
 use Rattle.cells.specs.declared.CellCount.{CellCount}
 use Rattle.cells.specs.declared.Region.{Region}
-use Rattle.cells.specs.Rows.{Table, unreadable, rows, reg_of, rangesOf}
+use Rattle.cells.specs.Rows.{Table, unreadable, rows, reg_of, ranges_of}
 use Rattle.fdt.specs.Tree.{Property, Nodes, none, node}
-use Rattle.nodes.specs.Cells.{addressCells, sizeCells}
-use Rattle.nodes.specs.OnTree.{kidsOf}
+use Rattle.nodes.specs.Cells.{address_cells, size_cells}
+use Rattle.nodes.specs.OnTree.{kids_of}
 use Rattle.nodes.specs.Order.{order, number_in}
 use Rattle.reading.specs.Values.{value_of, count_of}
 use Rattle.windows.specs.declared.Window.{Window}
 use Rattle.windows.specs.declared.Window.TheVariants.{To, Nowhere, Unreadable}
 use Rattle.windows.specs.Window.{reach, window}
-use Rattle.subtree.specs.Names.{regName, rangesName}
-use Rattle.subtree.specs.Subtree.{propsOf}
+use Rattle.subtree.specs.Names.{reg_name, ranges_name}
+use Rattle.subtree.specs.Subtree.{props_of}
 use Rattle.translation.specs.declared.Sought.{Sought}
 use Rattle.translation.specs.declared.Sought.TheVariants.{Given, FirstReg}
 use Rattle.translation.specs.declared.Translated.{Translated}
@@ -21,10 +21,10 @@ use Rattle.translation.specs.declared.Translated.TheVariants.{Found, NoAddress}
 
 -- the counts of cells that a node with these properties states for its children
 unfoldable pub address_of : List Property → CellCount
-address_of ps = count_of (value_of addressCells ps)
+address_of ps = count_of (value_of address_cells ps)
 
 unfoldable pub size_of : List Property → CellCount
-size_of ps = count_of (value_of sizeCells ps)
+size_of ps = count_of (value_of size_cells ps)
 
 -- ── The target and its ancestors ──
 abbrev pub or_else : List (List Property) → List (List Property) → List (List Property)
@@ -41,12 +41,12 @@ trail q (node p nm ps kids rest) above = cond (eqb p q) (ps ∷ above) (or_else 
 
 -- a bus with these properties, below a parent with such address cells. "No `ranges` or an unreadable one: none. Empty: unchanged. Else the
 -- first range .."
-abbrev pub overBus : Option (List ℕ) → CellCount → CellCount → CellCount → ℕ → ℕ → Window
-overBus nothing own up length address size = Nowhere
-overBus (some v) own up length address size = window false (rangesOf own up length v) address size
+abbrev pub over_bus : Option (List ℕ) → CellCount → CellCount → CellCount → ℕ → ℕ → Window
+over_bus nothing own up length address size = Nowhere
+over_bus (some v) own up length address size = window false (ranges_of own up length v) address size
 
 unfoldable pub over : List Property → CellCount → ℕ → ℕ → Window
-over bus up address size = overBus (value_of rangesName bus) (address_of bus) up (size_of bus) address size
+over bus up address size = over_bus (value_of ranges_name bus) (address_of bus) up (size_of bus) address size
 
 abbrev pub onward : Window → (ℕ → Window) → Window
 onward (To x) k = k x
@@ -74,16 +74,16 @@ pub data Start : Type 0 where
   from : Region → Start
   no_start : Start
 
-abbrev pub firstRow : Table Region → Start
-firstRow unreadable = no_start
-firstRow (rows []) = no_start
-firstRow (rows (r ∷ l)) = from r
+abbrev pub first_row : Table Region → Start
+first_row unreadable = no_start
+first_row (rows []) = no_start
+first_row (rows (r ∷ l)) = from r
 
 -- what is translated: the region that is given, or the target's "first `reg` entry". "`reg` uses the parent's cells"
 abbrev pub start_of : Sought → CellCount → CellCount → Option (List ℕ) → Start
 start_of (Given r) a c v = from r
 start_of FirstReg a c nothing = no_start
-start_of FirstReg a c (some v) = firstRow (reg_of a c v)
+start_of FirstReg a c (some v) = first_row (reg_of a c v)
 
 -- "A found address comes with the number of nodes tried"
 abbrev pub answer : Window → ℕ → ℕ → Translated
@@ -91,24 +91,24 @@ answer (To x) size k = Found (record { address = x; size = size }) k
 answer Nowhere size k = NoAddress
 answer Unreadable size k = NoAddress
 
-abbrev pub fromStart : Start → List (List Property) → ℕ → Translated
-fromStart no_start above k = NoAddress
-fromStart (from r) above k = answer (climbed above r.address r.size) r.size k
+abbrev pub from_start : Start → List (List Property) → ℕ → Translated
+from_start no_start above k = NoAddress
+from_start (from r) above k = answer (climbed above r.address r.size) r.size k
 
 abbrev pub parent_of : List (List Property) → List Property
 parent_of [] = []
 parent_of (ps ∷ above) = ps
 
 -- "A target that is no node below the root: none."
-abbrev pub alongTrail : List (List Property) → Sought → ℕ → Translated
-alongTrail [] s k = NoAddress
-alongTrail (own ∷ above) s k = fromStart (start_of s (address_of (parent_of above)) (size_of (parent_of above)) (value_of regName own)) above k
+abbrev pub along_trail : List (List Property) → Sought → ℕ → Translated
+along_trail [] s k = NoAddress
+along_trail (own ∷ above) s k = from_start (start_of s (address_of (parent_of above)) (size_of (parent_of above)) (value_of reg_name own)) above k
 
 -- "the target's place in document order, the root's first child being 1"
 unfoldable pub translated : Nodes → ℕ → Sought → Translated
-translated t target s = alongTrail (trail target (kidsOf t) (propsOf t ∷ [])) s (number_in (order (kidsOf t) []) target 1)
+translated t target s = along_trail (trail target (kids_of t) (props_of t ∷ [])) s (number_in (order (kids_of t) []) target 1)
 
 -- the number that a caller gets. "A failure gives 0."
-abbrev pub triedNumber : Translated → ℕ
-triedNumber (Found r k) = k
-triedNumber NoAddress = 0
+abbrev pub tried_number : Translated → ℕ
+tried_number (Found r k) = k
+tried_number NoAddress = 0

@@ -2,11 +2,11 @@
 // the target, the other runs over its children; the levels that are left fall.
 ghost use Rattle.std.specs.Prelude.{◌≡◌, ◌+◌};
 ghost use Rattle.nodes.specs.declared.Found.TheVariants.{At};
-ghost use Rattle.nodes.specs.OnTree.{kidsOf};
-ghost use Rattle.subtree.specs.Names.{regName};
-ghost use Rattle.subtree.specs.Subtree.{nodeAt, at, rootAt, propsOf};
-ghost use Rattle.translation.specs.Translation.{over, start_of, address_of, size_of, translated, triedNumber};
-ghost use Rattle.translation.specs.Search.{begunAt, upThrough, tried, searched, finished, Begins};
+ghost use Rattle.nodes.specs.OnTree.{kids_of};
+ghost use Rattle.subtree.specs.Names.{reg_name};
+ghost use Rattle.subtree.specs.Subtree.{node_at, at, root_at, props_of};
+ghost use Rattle.translation.specs.Translation.{over, start_of, address_of, size_of, translated, tried_number};
+ghost use Rattle.translation.specs.Search.{begun_at, up_through, tried, searched, finished, Begins};
 ghost use Rattle.reading.specs.Values.{value_of};
 
 use cells::{CellCount, RegRow, Region};
@@ -29,7 +29,7 @@ pub enum Translated {
 
 impl Translated {
     pub fn number(self) -> usize
-        ensures { result ≡ triedNumber self }
+        ensures { result ≡ tried_number self }
     {
         match self {
             Translated::Found(_, tried) => tried,
@@ -57,7 +57,7 @@ fn begin_at<'a>(
     sought: Sought,
     number: usize,
 ) -> Search
-    ensures { result ≡ begunAt (start_of sought address size (value_of regName (propsOf (nodeAt structure.now strings.now node)))) number }
+    ensures { result ≡ begun_at (start_of sought address size (value_of reg_name (props_of (node_at structure.now strings.now node)))) number }
 {
     match sought {
         Sought::Given(region) => Search::Gone(region.address, region.size, number),
@@ -83,7 +83,7 @@ fn over_bus<'a>(
     address: u64,
     size: u64,
 ) -> Window
-    ensures { result ≡ over (propsOf (nodeAt structure.now strings.now bus)) parent address size }
+    ensures { result ≡ over (props_of (node_at structure.now strings.now bus)) parent address size }
 {
     match nodes::getprop(structure, strings, bus, b"ranges") {
         Value::Here(at, len) => {
@@ -104,7 +104,7 @@ fn up_through<'a>(
     parent: CellCount,
     found: Search,
 ) -> Search
-    ensures { result ≡ upThrough (λ x size. over (propsOf (nodeAt structure.now strings.now bus)) parent x size) found }
+    ensures { result ≡ up_through (λ x size. over (props_of (node_at structure.now strings.now bus)) parent x size) found }
 {
     match found {
         Search::Gone(address, size, number) => {
@@ -132,7 +132,7 @@ fn translate_from_subtree<'a>(
     before: usize,
 ) -> Search
     requires { Begins structure.now strings.now (At node) before }
-    ensures { result ≡ tried target sought node (propsOf (nodeAt structure.now strings.now node)) address size before (searched target sought (kidsOf (nodeAt structure.now strings.now node)) (address_of (propsOf (nodeAt structure.now strings.now node))) (size_of (propsOf (nodeAt structure.now strings.now node))) (before + 1)) }
+    ensures { result ≡ tried target sought node (props_of (node_at structure.now strings.now node)) address size before (searched target sought (kids_of (node_at structure.now strings.now node)) (address_of (props_of (node_at structure.now strings.now node))) (size_of (props_of (node_at structure.now strings.now node))) (before + 1)) }
 {
     if node == target {
         return begin_at(structure, strings, node, address, size, sought, before + 1);
@@ -214,7 +214,7 @@ pub fn translate_mmio_address<'a>(
     target: usize,
     sought: Sought,
 ) -> Translated
-    ensures { result ≡ translated (rootAt structure.now strings.now) target sought }
+    ensures { result ≡ translated (root_at structure.now strings.now) target sought }
 {
     let Found::At(root) = nodes::path_offset(structure, strings, b"/") else {
         return Translated::NoAddress;

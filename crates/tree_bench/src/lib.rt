@@ -1,11 +1,11 @@
 // What trees/bench.c times of our reader: a call that C can make.
 ghost use Rattle.std.specs.Prelude.{◌≡◌};
-ghost use Rattle.fdt.specs.Opening.{openedNumber, opened_of};
+ghost use Rattle.fdt.specs.Opening.{opened_number, opened_of};
 
 // Opens a tree, and answers the number of what that says.
 #[unsafe(no_mangle)]
 pub extern "C" fn bench_open(s: &[u8]) -> u8
-    ensures { result ≡ openedNumber (opened_of s.now) }
+    ensures { result ≡ opened_number (opened_of s.now) }
 {
     let opened = fdt::open_tree(s);
     let said = opened.number();

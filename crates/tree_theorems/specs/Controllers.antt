@@ -7,38 +7,38 @@ use Rattle.entry.specs.Kind.{number_of}
 use Rattle.entry.specs.Claim.{Claim, claim}
 use Rattle.cells.specs.declared.Region.{Region}
 use Rattle.fdt.specs.Tree.{Nodes, none, node}
-use Rattle.nodes.specs.OnTree.{kidsOf}
+use Rattle.nodes.specs.OnTree.{kids_of}
 use Rattle.reading.specs.Values.{value_of}
-use Rattle.subtree.specs.Names.{regName, interruptControllerName}
-use Rattle.subtree.specs.Subtree.{propsOf}
+use Rattle.subtree.specs.Names.{reg_name, interrupt_controller_name}
+use Rattle.subtree.specs.Subtree.{props_of}
 use Rattle.translation.specs.declared.Sought.TheVariants.{Given}
 use Rattle.translation.specs.declared.Translated.{Translated}
 use Rattle.translation.specs.declared.Translated.TheVariants.{Found, NoAddress}
 use Rattle.translation.specs.Translation.{address_of, size_of, translated}
-use Rattle.stdout.specs.Stdout.{isThere}
-use Rattle.claims.specs.Claims.{and_then, entriesIn}
+use Rattle.stdout.specs.Stdout.{is_there}
+use Rattle.claims.specs.Claims.{and_then, entries_in}
 
 -- a Device at the translated address; nothing where there is none
-abbrev pub deviceAt : Translated → Option Claim
-deviceAt (Found r k) = some (claim r.address r.size (number_of Device))
-deviceAt NoAddress = nothing
+abbrev pub device_at : Translated → Option Claim
+device_at (Found r k) = some (claim r.address r.size (number_of Device))
+device_at NoAddress = nothing
 
 module _ (tree : Nodes) where
   -- these regions of the node at q, one after the other
-  unfoldable pub regionsTranslated : ℕ → List Region → List Claim
-  regionsTranslated q [] = []
-  regionsTranslated q (r ∷ l) = and_then (deviceAt (translated tree q (Given r))) (regionsTranslated q l)
+  unfoldable pub regions_translated : ℕ → List Region → List Claim
+  regions_translated q [] = []
+  regions_translated q (r ∷ l) = and_then (device_at (translated tree q (Given r))) (regions_translated q l)
 
   -- those of the nodes in this row that have `interrupt-controller`: the entries of `reg`, by the root's cells. "An unreadable `reg` here gives
   -- no claim."
-  unfoldable pub rowTranslated : Nodes → List Claim
-  rowTranslated none = []
-  rowTranslated (node q nm ps kids rest) =
-      cond (isThere (value_of interruptControllerName ps))
-      (regionsTranslated q (entriesIn (address_of (propsOf tree)) (size_of (propsOf tree)) (value_of regName ps)))
+  unfoldable pub row_translated : Nodes → List Claim
+  row_translated none = []
+  row_translated (node q nm ps kids rest) =
+      cond (is_there (value_of interrupt_controller_name ps))
+      (regions_translated q (entries_in (address_of (props_of tree)) (size_of (props_of tree)) (value_of reg_name ps)))
       []
-      ++ rowTranslated rest
+      ++ row_translated rest
 
   -- "the root's children"
-  abbrev pub controllersTranslated : List Claim
-  controllersTranslated = rowTranslated (kidsOf tree)
+  abbrev pub controllers_translated : List Claim
+  controllers_translated = row_translated (kids_of tree)

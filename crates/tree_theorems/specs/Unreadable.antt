@@ -3,15 +3,15 @@ use Rattle.std.specs.Prelude.{◌≡◌, ◌⊎◌, ℕ, ◌+◌, ◌%◌, Bool,
 use Rattle.std.proofs.Math.Option.{some, none as nothing}
 use Rattle.words.specs.Bytes.{word}
 use Rattle.cells.specs.declared.Region.{Region}
-use Rattle.cells.specs.Count.{addressWidth, size_width, Unfit}
+use Rattle.cells.specs.Count.{address_width, size_width, Unfit}
 use Rattle.cells.specs.Rows.{rows, reg_of}
 use Rattle.fdt.specs.Tree.{Property, Nodes}
-use Rattle.nodes.specs.Cells.{addressCells, sizeCells}
-use Rattle.nodes.specs.OnTree.{kidsOf}
+use Rattle.nodes.specs.Cells.{address_cells, size_cells}
+use Rattle.nodes.specs.OnTree.{kids_of}
 use Rattle.reading.specs.Values.{value_of}
-use Rattle.subtree.specs.Names.{regName, rangesName, statusName, okay, modelName, dummyVirt, socName, reservedMemoryName}
-use Rattle.subtree.specs.Subtree.{propsOf, underRoot}
-use Rattle.text.specs.Strings.{stringIn}
+use Rattle.subtree.specs.Names.{reg_name, ranges_name, status_name, okay, model_name, dummy_virt, soc_name, reserved_memory_name}
+use Rattle.subtree.specs.Subtree.{props_of, under_root}
+use Rattle.text.specs.Strings.{string_in}
 use Rattle.translation.specs.Translation.{address_of, size_of}
 use Rattle.tree_theorems.specs.Children.{Child}
 
@@ -24,65 +24,65 @@ pub record States (name : List ℕ) (ps : List Property) (k : ℕ) : Type 0 wher
 
 -- "Children count only if it and the root both state both cell counts in 4 bytes each, they are equal, and it has an empty `ranges`."
 pub record ChildrenCount (root ps : List Property) : Type 0 where
-  pub address : (k : ℕ) × States addressCells root k × States addressCells ps k
-  pub size : (k : ℕ) × States sizeCells root k × States sizeCells ps k
-  pub ranges : value_of rangesName ps ≡ some []
+  pub address : (k : ℕ) × States address_cells root k × States address_cells ps k
+  pub size : (k : ℕ) × States size_cells root k × States size_cells ps k
+  pub ranges : value_of ranges_name ps ≡ some []
 
 -- "A child counts if `status` is absent or `okay` with its zero byte."
 abbrev pub Counts : List Property → Type 0
-Counts ps = (value_of statusName ps ≡ nothing) ⊎ (value_of statusName ps ≡ some okay)
+Counts ps = (value_of status_name ps ≡ nothing) ⊎ (value_of status_name ps ≡ some okay)
 
 -- "A nonempty `reg` .. is unreadable if a cell count is not 1 or 2, a governing cell property is not 4 bytes, or bytes are left over."
 -- "`reg` uses the parent's cells"
 pub record UnreadableReg (parent ps : List Property) : Type 0 where
   pub value : List ℕ
-  pub has : value_of regName ps ≡ some value
+  pub has : value_of reg_name ps ≡ some value
   pub nonempty : length value ≡ 0 → ⊥
   pub why : Unfit (address_of parent)
       ⊎ (Unfit (size_of parent)
-      ⊎ (length value % (addressWidth (address_of parent) + size_width (size_of parent)) ≡ 0 → ⊥))
+      ⊎ (length value % (address_width (address_of parent) + size_width (size_of parent)) ≡ 0 → ⊥))
 
 -- the same of `ranges`, which "has child address and size by the bus's own cells, parent address by its parent's"
 pub record UnreadableRanges (parent ps : List Property) : Type 0 where
   pub value : List ℕ
-  pub has : value_of rangesName ps ≡ some value
+  pub has : value_of ranges_name ps ≡ some value
   pub nonempty : length value ≡ 0 → ⊥
   pub why : Unfit (address_of ps)
       ⊎ (Unfit (address_of parent)
       ⊎ (Unfit (size_of ps)
-      ⊎ (length value % (addressWidth (address_of ps) + addressWidth (address_of parent) + size_width (size_of ps)) ≡ 0 → ⊥)))
+      ⊎ (length value % (address_width (address_of ps) + address_width (address_of parent) + size_width (size_of ps)) ≡ 0 → ⊥)))
 
 -- "each readable `reg` entry": a node has at least one
 pub record ReadableEntry (parent ps : List Property) : Type 0 where
   pub value : List ℕ
-  pub has : value_of regName ps ≡ some value
+  pub has : value_of reg_name ps ≡ some value
   pub entry : Region
   pub others : List Region
   pub reads : reg_of (address_of parent) (size_of parent) value ≡ rows (entry ∷ others)
 
 -- 7: "a counted reserved child's nonempty `reg` is unreadable"
 pub record BadReserved (t : Nodes) : Type 0 where
-  pub children : ChildrenCount (propsOf t) (propsOf (underRoot reservedMemoryName t))
+  pub children : ChildrenCount (props_of t) (props_of (under_root reserved_memory_name t))
   pub place : ℕ
   pub own : List Property
-  pub child : Child place own (kidsOf (underRoot reservedMemoryName t))
+  pub child : Child place own (kids_of (under_root reserved_memory_name t))
   pub counts : Counts own
-  pub reg : UnreadableReg (propsOf (underRoot reservedMemoryName t)) own
+  pub reg : UnreadableReg (props_of (under_root reserved_memory_name t)) own
 
 -- "If the build is for 64-bit ARM and the root's `model` contains `linux,dummy-virt`": then no /soc is read
 pub record Virtual (arm : Bool) (t : Nodes) : Type 0 where
   pub built : arm ≡ true
   pub model : List ℕ
-  pub has : stringIn (value_of modelName (propsOf t)) ≡ some model
+  pub has : string_in (value_of model_name (props_of t)) ≡ some model
   pub before : List ℕ
   pub after : List ℕ
-  pub holds : model ≡ before ++ (dummyVirt ++ after)
+  pub holds : model ≡ before ++ (dummy_virt ++ after)
 
 -- 8: "a readable /soc entry meets an unreadable `ranges`"
 pub record BadSoc (arm : Bool) (t : Nodes) : Type 0 where
   pub board : Virtual arm t → ⊥
   pub place : ℕ
   pub own : List Property
-  pub child : Child place own (kidsOf (underRoot socName t))
-  pub entry : ReadableEntry (propsOf (underRoot socName t)) own
-  pub ranges : UnreadableRanges (propsOf t) (propsOf (underRoot socName t))
+  pub child : Child place own (kids_of (under_root soc_name t))
+  pub entry : ReadableEntry (props_of (under_root soc_name t)) own
+  pub ranges : UnreadableRanges (props_of t) (props_of (under_root soc_name t))

@@ -12,45 +12,45 @@ use borrow.Author.Tests.{leb-true}
 use Rattle.memory.specs.declared.MemoryMap.{MemoryMap}
 use Rattle.fdt.specs.declared.Opened.{Opened}
 use Rattle.fdt.specs.declared.Opened.TheVariants.{NoTree, Tree, BadHeader, OverLimit, BadStructure}
-use Rattle.fdt.specs.Header.{totalsize, GoodHeader, off-dt-struct, off-mem-rsvmap}
-use Rattle.fdt.specs.Opening.{blocksOf, opened_of}
+use Rattle.fdt.specs.Header.{totalsize, GoodHeader, off_dt_struct, off_mem_rsvmap}
+use Rattle.fdt.specs.Opening.{blocks_of, opened_of}
 use Rattle.grammar.specs.Past.{SameFront}
-use Rattle.grammar.proofs.OpeningLaws.{opened-exactly, opened-blocks}
-use Rattle.grammar.proofs.PastLaws.{front-part, front-structure, front-strings, front-opened, front_of}
-use Rattle.reservations.specs.Reservations.{blockIn}
-use Rattle.dtb.specs.Call.{openedCall, treeRegistered}
+use Rattle.grammar.proofs.OpeningLaws.{opened_exactly, opened_blocks}
+use Rattle.grammar.proofs.PastLaws.{front_part, front_structure, front_strings, front_opened, front_of}
+use Rattle.reservations.specs.Reservations.{block_in}
+use Rattle.dtb.specs.Call.{opened_call, tree_registered}
 
-never-so : (x y : Bool) → (x && (y && false)) ≡ false
-never-so true true = refl
-never-so true false = refl
-never-so false y = refl
+never_so : (x y : Bool) → (x && (y && false)) ≡ false
+never_so true true = refl
+never_so true false = refl
+never_so false y = refl
 
 module _ (s u : List ℕ) (d : SameFront s u) where
   -- the reservation block ends where the structure block begins
-  block-front : GoodHeader s → blockIn s (blocksOf s) ≡ blockIn u (blocksOf s)
-  unfolding blockIn blocksOf
-  block-front g = go (leb (off-mem-rsvmap s) (off-dt-struct s)) refl
+  block_front : GoodHeader s → block_in s (blocks_of s) ≡ block_in u (blocks_of s)
+  unfolding block_in blocks_of
+  block_front g = go (leb (off_mem_rsvmap s) (off_dt_struct s)) refl
     where
-      go : (x : Bool) → leb (off-mem-rsvmap s) (off-dt-struct s) ≡ x → blockIn s (blocksOf s) ≡ blockIn u (blocksOf s)
+      go : (x : Bool) → leb (off_mem_rsvmap s) (off_dt_struct s) ≡ x → block_in s (blocks_of s) ≡ block_in u (blocks_of s)
       go true e =
-          let l : off-mem-rsvmap s ≤ off-dt-struct s = leb-true _ _ e in
-          rw (front-part s u d (off-mem-rsvmap s) (off-dt-struct s - off-mem-rsvmap s) (omega arith))
-      go false e = rw (e, never-so (leb 40 (off-mem-rsvmap s)) (eqb (off-mem-rsvmap s % 8) 0))
+          let l : off_mem_rsvmap s ≤ off_dt_struct s = leb-true _ _ e in
+          rw (front_part s u d (off_mem_rsvmap s) (off_dt_struct s - off_mem_rsvmap s) (omega arith))
+      go false e = rw (e, never_so (leb 40 (off_mem_rsvmap s)) (eqb (off_mem_rsvmap s % 8) 0))
 
-  pub front-call : (p : ℕ) (m : MemoryMap) (arm : Bool) → treeRegistered p m s arm ≡ treeRegistered p m u arm
-  unfolding treeRegistered
-  front-call p m arm = rw (← front-opened s u d) (go (opened_of s) refl)
+  pub front_call : (p : ℕ) (m : MemoryMap) (arm : Bool) → tree_registered p m s arm ≡ tree_registered p m u arm
+  unfolding tree_registered
+  front_call p m arm = rw (← front_opened s u d) (go (opened_of s) refl)
     where
-      go : (o : Opened) → opened_of s ≡ o → openedCall p m s arm o ≡ openedCall p m u arm o
+      go : (o : Opened) → opened_of s ≡ o → opened_call p m s arm o ≡ opened_call p m u arm o
       go NoTree e = refl
       go BadHeader e = refl
       go OverLimit e = refl
       go BadStructure e = refl
       go (Tree k) e =
-          let b = opened-blocks s k e in
-          let g = ((opened-exactly s).0 (e ∙ ap Tree b)).0 in
-          rw (b, block-front g, front-structure s u d g, front-strings s u d g)
+          let b = opened_blocks s k e in
+          let g = ((opened_exactly s).0 (e ∙ ap Tree b)).0 in
+          rw (b, block_front g, front_structure s u d g, front_strings s u d g)
 
 -- THE CALL: the whole answer, and the map, are those of the first totalsize bytes
-pub past-call : (s : List ℕ) → 40 ≤ totalsize s → (p : ℕ) (m : MemoryMap) (arm : Bool) → treeRegistered p m s arm ≡ treeRegistered p m (take (totalsize s) s) arm
-past-call s h p m arm = ⊎_elim (λ d. front-call s _ d p m arm) (λ e. ap (λ (x : List ℕ). treeRegistered p m x arm) e) (front_of s h)
+pub past_call : (s : List ℕ) → 40 ≤ totalsize s → (p : ℕ) (m : MemoryMap) (arm : Bool) → tree_registered p m s arm ≡ tree_registered p m (take (totalsize s) s) arm
+past_call s h p m arm = ⊎_elim (λ d. front_call s _ d p m arm) (λ e. ap (λ (x : List ℕ). tree_registered p m x arm) e) (front_of s h)

@@ -11,31 +11,31 @@ use lib.Seq.{ext_get_or}
 use lib.Dec.{leb}
 use borrow.Author.Tests.{leb-true, leb-false}
 use Rattle.words.specs.Bytes.{part_of}
-use Rattle.words.proofs.BytesLaws.{part_none, part_length, part-byte}
+use Rattle.words.proofs.BytesLaws.{part_none, part_length, part_byte}
 use Rattle.memory.specs.declared.MemoryMap.{MemoryMap}
 use Rattle.fdt.specs.declared.Blocks.{Blocks}
 use Rattle.fdt.specs.declared.Opened.{Opened}
 use Rattle.fdt.specs.declared.Opened.TheVariants.{NoTree, Tree, BadHeader, OverLimit, BadStructure}
-use Rattle.fdt.specs.Header.{off-dt-struct, structureOf, stringsOf}
+use Rattle.fdt.specs.Header.{off_dt_struct, structure_of, strings_of}
 use Rattle.fdt.specs.Tree.{Property, Nodes, tree_of}
-use Rattle.fdt.specs.Opening.{blocksOf, opened_of}
-use Rattle.grammar.specs.Veil.{Free, veilK, Differs, PaddingDiffers, Apart}
-use Rattle.grammar.proofs.OpeningLaws.{opened-blocks}
-use Rattle.grammar.proofs.VeilLaws.{unfree, only-padding, same-opened, same-opened-tree}
-use Rattle.reservations.specs.Reservations.{blockIn, entriesOf}
+use Rattle.fdt.specs.Opening.{blocks_of, opened_of}
+use Rattle.grammar.specs.Veil.{Free, veil_k, Differs, PaddingDiffers, Apart}
+use Rattle.grammar.proofs.OpeningLaws.{opened_blocks}
+use Rattle.grammar.proofs.VeilLaws.{unfree, only_padding, same_opened, same_opened_tree}
+use Rattle.reservations.specs.Reservations.{block_in, entries_of}
 use Rattle.claims.specs.Claims.{claims_of}
-use Rattle.claims.specs.Judging.{judgedOf}
+use Rattle.claims.specs.Judging.{judged_of}
 use Rattle.dtb.specs.declared.TreeRegistered.{TreeRegistered}
-use Rattle.dtb.specs.Call.{openedCall, treeRegistered}
-use Rattle.value_bytes.specs.Unread.{AllKept, no-property, kept, Unread}
-use Rattle.value_bytes.proofs.VeilShape.{unread-alike}
-use Rattle.value_bytes.proofs.VeilClaims.{same-judged, same-claims}
+use Rattle.dtb.specs.Call.{opened_call, tree_registered}
+use Rattle.value_bytes.specs.Unread.{AllKept, no_property, kept, Unread}
+use Rattle.value_bytes.proofs.VeilShape.{unread_alike}
+use Rattle.value_bytes.proofs.VeilClaims.{same_judged, same_claims}
 
 -- ── Before the structure block there is no value ──
 module _ (free : Free) (s u : List ℕ) (d : Differs free s u) where
   -- a part of which each byte stands there is the same; one of no bytes may stand anywhere, so that nobody need ask the reservation block's
   -- tests
-  part_same : (at n : ℕ) → ((i : ℕ) → i < n → at + i < off-dt-struct s) → part_of s at n ≡ part_of u at n
+  part_same : (at n : ℕ) → ((i : ℕ) → i < n → at + i < off_dt_struct s) → part_of s at n ≡ part_of u at n
   part_same at n before = go (leb (at + n) (length s)) refl
     where
       go : (b : Bool) → leb (at + n) (length s) ≡ b → part_of s at n ≡ part_of u at n
@@ -49,80 +49,80 @@ module _ (free : Free) (s u : List ℕ) (d : Differs free s u) where
           let also : at + n ≤ length u = omega arith in
           let long = part_length s at n fits in
           ext_get_or 0 _ _ (long ∙ sym (part_length u at n also)) (λ i q.
-          let in-part : i < n = omega arith in
-          let front = before i in-part in
-          part-byte s at n fits i in-part ∙ d.bytes (at + i) (omega arith) (λ v. let f = v.from in omega arith) (λ v. let f = v.from in omega arith)
-          ∙ sym (part-byte u at n also i in-part))
+          let in_part : i < n = omega arith in
+          let front = before i in_part in
+          part_byte s at n fits i in_part ∙ d.bytes (at + i) (omega arith) (λ v. let f = v.from in omega arith) (λ v. let f = v.from in omega arith)
+          ∙ sym (part_byte u at n also i in_part))
 
   -- the reservation block ends where the structure block begins
-  block_same : (k : Blocks) → opened_of s ≡ Tree k → blockIn s k ≡ blockIn u k
-  unfolding blockIn blocksOf
+  block_same : (k : Blocks) → opened_of s ≡ Tree k → block_in s k ≡ block_in u k
+  unfolding block_in blocks_of
   block_same k e =
-      rw (opened-blocks s k e, part_same (blocksOf s).reservations (off-dt-struct s - (blocksOf s).reservations) (λ i l. omega arith))
+      rw (opened_blocks s k e, part_same (blocks_of s).reservations (off_dt_struct s - (blocks_of s).reservations) (λ i l. omega arith))
 
 -- ── THE THEOREMS, on bytes ──
 module _ (free : Free) (s u : List ℕ) (d : Differs free s u) (apart : Apart s)
-    (k : Unread free (tree_of (structureOf s) (stringsOf s))) where
+    (k : Unread free (tree_of (structure_of s) (strings_of s))) where
   -- what does not look behind the veil of either tree is the same of both
-  alike : {A : Type 0} (f : Nodes → A) → ((t : Nodes) → Unread free t → f (veilK free t) ≡ f t)
-      → f (tree_of (structureOf s) (stringsOf s)) ≡ f (tree_of (structureOf u) (stringsOf u))
+  alike : {A : Type 0} (f : Nodes → A) → ((t : Nodes) → Unread free t → f (veil_k free t) ≡ f t)
+      → f (tree_of (structure_of s) (strings_of s)) ≡ f (tree_of (structure_of u) (strings_of u))
   alike f law =
-      let e = same-opened-tree free s u d apart in
-      sym (law _ k) ∙ ap f e ∙ law _ (unread-alike free _ _ e k)
+      let e = same_opened_tree free s u d apart in
+      sym (law _ k) ∙ ap f e ∙ law _ (unread_alike free _ _ e k)
 
   -- both are refused for the same, or neither is
-  pub same-judged-of-bytes : (arm : Bool)
-      → judgedOf arm (tree_of (structureOf s) (stringsOf s)) ≡ judgedOf arm (tree_of (structureOf u) (stringsOf u))
-  same-judged-of-bytes arm = alike (judgedOf arm) (λ t h. same-judged h arm)
+  pub same_judged_of_bytes : (arm : Bool)
+      → judged_of arm (tree_of (structure_of s) (strings_of s)) ≡ judged_of arm (tree_of (structure_of u) (strings_of u))
+  same_judged_of_bytes arm = alike (judged_of arm) (λ t h. same_judged h arm)
 
   -- where both are opened, they claim the same, in the same order
-  pub same-claims-of-bytes : (arm : Bool) (j i : Blocks) → opened_of s ≡ Tree j → opened_of u ≡ Tree i
-      → claims_of arm (entriesOf (blockIn s j)) (tree_of (structureOf s) (stringsOf s))
-      ≡ claims_of arm (entriesOf (blockIn u i)) (tree_of (structureOf u) (stringsOf u))
-  same-claims-of-bytes arm j i x y =
-      let z = same-opened free s u d apart in
+  pub same_claims_of_bytes : (arm : Bool) (j i : Blocks) → opened_of s ≡ Tree j → opened_of u ≡ Tree i
+      → claims_of arm (entries_of (block_in s j)) (tree_of (structure_of s) (strings_of s))
+      ≡ claims_of arm (entries_of (block_in u i)) (tree_of (structure_of u) (strings_of u))
+  same_claims_of_bytes arm j i x y =
+      let z = same_opened free s u d apart in
       let e : j ≡ i = cc in
       rw (← e, ← block_same free s u d j x)
-      (alike (claims_of arm (entriesOf (blockIn s j))) (λ t h. same-claims h arm (entriesOf (blockIn s j))))
+      (alike (claims_of arm (entries_of (block_in s j))) (λ t h. same_claims h arm (entries_of (block_in s j))))
 
   -- the whole call: the same map, and the same answer
-  pub same-call : (p : ℕ) (m : MemoryMap) (arm : Bool) → treeRegistered p m s arm ≡ treeRegistered p m u arm
-  unfolding treeRegistered
-  same-call p m arm = rw (← same-opened free s u d apart) (go (opened_of s) refl)
+  pub same_call : (p : ℕ) (m : MemoryMap) (arm : Bool) → tree_registered p m s arm ≡ tree_registered p m u arm
+  unfolding tree_registered
+  same_call p m arm = rw (← same_opened free s u d apart) (go (opened_of s) refl)
     where
-      go : (o : Opened) → opened_of s ≡ o → openedCall p m s arm o ≡ openedCall p m u arm o
+      go : (o : Opened) → opened_of s ≡ o → opened_call p m s arm o ≡ opened_call p m u arm o
       go NoTree e = refl
       go BadHeader e = refl
       go OverLimit e = refl
       go BadStructure e = refl
       go (Tree j) e =
-          let there = sym (same-opened free s u d apart) ∙ e in
-          rw (same-judged-of-bytes arm, same-claims-of-bytes arm j j e there)
+          let there = sym (same_opened free s u d apart) ∙ e in
+          rw (same_judged_of_bytes arm, same_claims_of_bytes arm j j e there)
 
   -- so the number that a caller gets is the same
-  pub same_answer : (p : ℕ) (m : MemoryMap) (arm : Bool) → (treeRegistered p m s arm).answer ≡ (treeRegistered p m u arm).answer
-  same_answer p m arm = ap (λ (r : TreeRegistered). r.answer) (same-call p m arm)
+  pub same_answer : (p : ℕ) (m : MemoryMap) (arm : Bool) → (tree_registered p m s arm).answer ≡ (tree_registered p m u arm).answer
+  same_answer p m arm = ap (λ (r : TreeRegistered). r.answer) (same_call p m arm)
 
 -- ── PADDING: no value is free, so that none is read ──
-all-kept : (ps : List Property) → AllKept unfree ps
-all-kept [] = no-property
-all-kept (p ∷ ps) = kept refl (all-kept ps)
+all_kept : (ps : List Property) → AllKept unfree ps
+all_kept [] = no_property
+all_kept (p ∷ ps) = kept refl (all_kept ps)
 
-unread-none : (t : Nodes) → Unread unfree t
-unread-none t =
+unread_none : (t : Nodes) → Unread unfree t
+unread_none t =
     record {
-      address-cells = λ q. refl;
-      size-cells = λ q. refl;
+      address_cells_lem = λ q. refl;
+      size_cells_lem = λ q. refl;
       ranges = λ q. refl;
       reg = λ q. refl;
       status = λ q. refl;
       size = λ q. refl;
-      alloc-ranges = λ q. refl;
+      alloc_ranges = λ q. refl;
       model = λ q. refl;
-      stdout-path = λ q. refl;
-      aliases = all-kept _;
+      stdout_path = λ q. refl;
+      aliases = all_kept _;
     }
 
 -- the whole call: the same map, and the same answer
-pub padding-call : (s u : List ℕ) → PaddingDiffers s u → Apart s → (p : ℕ) (m : MemoryMap) (arm : Bool) → treeRegistered p m s arm ≡ treeRegistered p m u arm
-padding-call s u d apart = same-call unfree s u (only-padding s u d) apart (unread-none _)
+pub padding_call : (s u : List ℕ) → PaddingDiffers s u → Apart s → (p : ℕ) (m : MemoryMap) (arm : Bool) → tree_registered p m s arm ≡ tree_registered p m u arm
+padding_call s u d apart = same_call unfree s u (only_padding s u d) apart (unread_none _)

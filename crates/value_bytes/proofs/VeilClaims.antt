@@ -10,98 +10,98 @@ use Rattle.cells.specs.declared.Region.{Region}
 use Rattle.cells.specs.declared.Range.{Range}
 use Rattle.cells.specs.Rows.{Table}
 use Rattle.fdt.specs.Tree.{Property, Nodes, none, node}
-use Rattle.grammar.specs.Veil.{Free, veilP, veilK}
+use Rattle.grammar.specs.Veil.{Free, veil_p, veil_k}
 use Rattle.reading.specs.Values.{value_of}
-use Rattle.reading.proofs.ReadVeil.{value-veil, find-veil}
-use Rattle.subtree.specs.Names.{regName, rangesName, sizeName, allocRangesName, modelName, interruptControllerName, socName}
-use Rattle.subtree.specs.Subtree.{propsOf, underRoot}
+use Rattle.reading.proofs.ReadVeil.{value_veil, find_veil}
+use Rattle.subtree.specs.Names.{reg_name, ranges_name, size_name, alloc_ranges_name, model_name, interrupt_controller_name, soc_name}
+use Rattle.subtree.specs.Subtree.{props_of, under_root}
 use Rattle.claims.specs.declared.Way.{Way}
 use Rattle.claims.specs.declared.Way.TheVariants.{Reserve, Soc, Controllers}
-use Rattle.claims.specs.Claims.{childRegions, kidClaims, reservedClaims, socBy, socClaims, stdoutClaims, controllerClaims, isVirt, deviceClaims, claims_of}
-use Rattle.claims.specs.Judging.{childIs, someKid, badReg, badRanges, judgedOf}
+use Rattle.claims.specs.Claims.{child_regions, kid_claims, reserved_claims, soc_by, soc_claims, stdout_claims, controller_claims, is_virt, device_claims, claims_of}
+use Rattle.claims.specs.Judging.{child_is, some_kid, bad_reg, bad_ranges, judged_of}
 use Rattle.value_bytes.specs.Unread.{Unread}
-use Rattle.value_bytes.proofs.VeilShape.{props-veil, kids-veil, under-veil, there-veil}
-use Rattle.value_bytes.proofs.VeilRules.{address-veil, size-veil, available-veil, children-veil, uart-veil}
+use Rattle.value_bytes.proofs.VeilShape.{props_veil, kids_veil, under_veil, there_veil}
+use Rattle.value_bytes.proofs.VeilRules.{address_veil, size_veil, available_veil, children_veil, uart_veil}
 
 module _ {free : Free} {t : Nodes} (k : Unread free t) where
   -- ── Children in a row ──
-  reg-veil : (ps : List Property) → value_of regName (veilP free ps) ≡ value_of regName ps
-  reg-veil = value-veil free regName k.reg
+  reg_veil : (ps : List Property) → value_of reg_name (veil_p free ps) ≡ value_of reg_name ps
+  reg_veil = value_veil free reg_name k.reg
 
-  regions-veil : (way : Way) (a c : CellCount) (ps : List Property) → childRegions way a c (veilP free ps) ≡ childRegions way a c ps
-  unfolding childRegions
-  regions-veil Reserve a c ps =
-      rw (available-veil k ps, reg-veil ps, value-veil free sizeName k.size ps, value-veil free allocRangesName k.alloc-ranges ps)
-  regions-veil Soc a c ps = rw (reg-veil ps)
-  regions-veil Controllers a c ps = rw (there-veil free interruptControllerName ps, reg-veil ps)
+  regions_veil : (way : Way) (a c : CellCount) (ps : List Property) → child_regions way a c (veil_p free ps) ≡ child_regions way a c ps
+  unfolding child_regions
+  regions_veil Reserve a c ps =
+      rw (available_veil k ps, reg_veil ps, value_veil free size_name k.size ps, value_veil free alloc_ranges_name k.alloc_ranges ps)
+  regions_veil Soc a c ps = rw (reg_veil ps)
+  regions_veil Controllers a c ps = rw (there_veil free interrupt_controller_name ps, reg_veil ps)
 
-  kid-claims-veil : (way : Way) (w : Table Range) (a c : CellCount) (ks : Nodes)
-      → kidClaims way w a c (veilK free ks) ≡ kidClaims way w a c ks
-  unfolding kidClaims veilK
-  kid-claims-veil way w a c none = refl
-  kid-claims-veil way w a c (node q nm ps kids rest) = rw (regions-veil way a c ps, kid-claims-veil way w a c rest)
+  kid_claims_veil : (way : Way) (w : Table Range) (a c : CellCount) (ks : Nodes)
+      → kid_claims way w a c (veil_k free ks) ≡ kid_claims way w a c ks
+  unfolding kid_claims veil_k
+  kid_claims_veil way w a c none = refl
+  kid_claims_veil way w a c (node q nm ps kids rest) = rw (regions_veil way a c ps, kid_claims_veil way w a c rest)
 
-  is-veil : (reserved : Bool) (a c : CellCount) (ps : List Property) → childIs reserved a c (veilP free ps) ≡ childIs reserved a c ps
-  unfolding childIs
-  is-veil true a c ps = rw (available-veil k ps, reg-veil ps)
-  is-veil false a c ps = rw (reg-veil ps)
+  is_veil : (reserved : Bool) (a c : CellCount) (ps : List Property) → child_is reserved a c (veil_p free ps) ≡ child_is reserved a c ps
+  unfolding child_is
+  is_veil true a c ps = rw (available_veil k ps, reg_veil ps)
+  is_veil false a c ps = rw (reg_veil ps)
 
-  some-veil : (reserved : Bool) (a c : CellCount) (ks : Nodes) → someKid reserved a c (veilK free ks) ≡ someKid reserved a c ks
-  unfolding someKid veilK
-  some-veil reserved a c none = refl
-  some-veil reserved a c (node q nm ps kids rest) = rw (is-veil reserved a c ps, some-veil reserved a c rest)
+  some_veil : (reserved : Bool) (a c : CellCount) (ks : Nodes) → some_kid reserved a c (veil_k free ks) ≡ some_kid reserved a c ks
+  unfolding some_kid veil_k
+  some_veil reserved a c none = refl
+  some_veil reserved a c (node q nm ps kids rest) = rw (is_veil reserved a c ps, some_veil reserved a c rest)
 
   -- ── The parts ──
-  reserved-veil : reservedClaims (veilK free t) ≡ reservedClaims t
-  unfolding reservedClaims
-  reserved-veil =
-      simp (find-veil free, props-veil free, kids-veil free, children-veil k, address-veil k, size-veil k, kid-claims-veil)
+  reserved_veil : reserved_claims (veil_k free t) ≡ reserved_claims t
+  unfolding reserved_claims
+  reserved_veil =
+      simp (find_veil free, props_veil free, kids_veil free, children_veil k, address_veil k, size_veil k, kid_claims_veil)
 
-  soc-veil : socClaims (veilK free t) ≡ socClaims t
-  unfolding socClaims
-  soc-veil = rw (under-veil free socName t) (go (underRoot socName t))
+  soc_veil : soc_claims (veil_k free t) ≡ soc_claims t
+  unfolding soc_claims
+  soc_veil = rw (under_veil free soc_name t) (go (under_root soc_name t))
     where
-      by : (s : Nodes) (o : Option (List ℕ)) → socBy (veilK free t) (veilK free s) o ≡ socBy t s o
+      by : (s : Nodes) (o : Option (List ℕ)) → soc_by (veil_k free t) (veil_k free s) o ≡ soc_by t s o
       by s nothing = refl
-      by s (some v) = simp (props-veil free, kids-veil free, address-veil k, size-veil k, kid-claims-veil)
+      by s (some v) = simp (props_veil free, kids_veil free, address_veil k, size_veil k, kid_claims_veil)
 
       go : (s : Nodes)
-          → socBy (veilK free t) (veilK free s) (value_of rangesName (propsOf (veilK free s))) ≡ socBy t s (value_of rangesName (propsOf s))
-      go s = rw (props-veil free s, value-veil free rangesName k.ranges (propsOf s)) (by s (value_of rangesName (propsOf s)))
+          → soc_by (veil_k free t) (veil_k free s) (value_of ranges_name (props_of (veil_k free s))) ≡ soc_by t s (value_of ranges_name (props_of s))
+      go s = rw (props_veil free s, value_veil free ranges_name k.ranges (props_of s)) (by s (value_of ranges_name (props_of s)))
 
-  stdout-claims-veil : stdoutClaims (veilK free t) ≡ stdoutClaims t
-  unfolding stdoutClaims
-  stdout-claims-veil = rw (uart-veil k)
+  stdout_claims_veil : stdout_claims (veil_k free t) ≡ stdout_claims t
+  unfolding stdout_claims
+  stdout_claims_veil = rw (uart_veil k)
 
-  controllers-veil : controllerClaims (veilK free t) ≡ controllerClaims t
-  unfolding controllerClaims
-  controllers-veil = simp (props-veil free, kids-veil free, address-veil k, size-veil k, kid-claims-veil)
+  controllers_veil : controller_claims (veil_k free t) ≡ controller_claims t
+  unfolding controller_claims
+  controllers_veil = simp (props_veil free, kids_veil free, address_veil k, size_veil k, kid_claims_veil)
 
-  virt-veil : (arm : Bool) → isVirt arm (veilK free t) ≡ isVirt arm t
-  unfolding isVirt
-  virt-veil arm = rw (props-veil free t, value-veil free modelName k.model (propsOf t))
+  virt_veil : (arm : Bool) → is_virt arm (veil_k free t) ≡ is_virt arm t
+  unfolding is_virt
+  virt_veil arm = rw (props_veil free t, value_veil free model_name k.model (props_of t))
 
-  devices-veil : (arm : Bool) → deviceClaims arm (veilK free t) ≡ deviceClaims arm t
-  unfolding deviceClaims
-  devices-veil arm = rw (virt-veil arm, soc-veil, stdout-claims-veil, controllers-veil)
+  devices_veil : (arm : Bool) → device_claims arm (veil_k free t) ≡ device_claims arm t
+  unfolding device_claims
+  devices_veil arm = rw (virt_veil arm, soc_veil, stdout_claims_veil, controllers_veil)
 
-  bad-reg-veil : badReg (veilK free t) ≡ badReg t
-  unfolding badReg
-  bad-reg-veil =
-      simp (find-veil free, props-veil free, kids-veil free, children-veil k, address-veil k, size-veil k, some-veil)
+  bad_reg_veil : bad_reg (veil_k free t) ≡ bad_reg t
+  unfolding bad_reg
+  bad_reg_veil =
+      simp (find_veil free, props_veil free, kids_veil free, children_veil k, address_veil k, size_veil k, some_veil)
 
-  bad-ranges-veil : badRanges (veilK free t) ≡ badRanges t
-  unfolding badRanges
-  bad-ranges-veil =
+  bad_ranges_veil : bad_ranges (veil_k free t) ≡ bad_ranges t
+  unfolding bad_ranges
+  bad_ranges_veil =
       simp
-      (find-veil free, props-veil free, kids-veil free, value-veil free rangesName k.ranges, address-veil k, size-veil k, some-veil)
+      (find_veil free, props_veil free, kids_veil free, value_veil free ranges_name k.ranges, address_veil k, size_veil k, some_veil)
 
   -- THE THEOREMS, on a tree of which these properties are unread: the veiled tree is refused for the same
-  pub same-judged : (arm : Bool) → judgedOf arm (veilK free t) ≡ judgedOf arm t
-  unfolding judgedOf
-  same-judged arm = rw (bad-reg-veil, virt-veil arm, bad-ranges-veil)
+  pub same_judged : (arm : Bool) → judged_of arm (veil_k free t) ≡ judged_of arm t
+  unfolding judged_of
+  same_judged arm = rw (bad_reg_veil, virt_veil arm, bad_ranges_veil)
 
   -- and claims the same
-  pub same-claims : (arm : Bool) (block : List Region) → claims_of arm block (veilK free t) ≡ claims_of arm block t
+  pub same_claims : (arm : Bool) (block : List Region) → claims_of arm block (veil_k free t) ≡ claims_of arm block t
   unfolding claims_of
-  same-claims arm block = rw (reserved-veil, devices-veil arm)
+  same_claims arm block = rw (reserved_veil, devices_veil arm)

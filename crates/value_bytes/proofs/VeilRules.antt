@@ -7,115 +7,115 @@ use mathlib.Core.Option.{Option, some, none as nothing}
 use mathlib.Core.List.{List, [], ◌∷◌}
 use Rattle.cells.specs.declared.CellCount.{CellCount}
 use Rattle.fdt.specs.Tree.{Property, Nodes, none, node}
-use Rattle.grammar.specs.Veil.{Free, veilP, veilK}
-use Rattle.nodes.specs.Cells.{addressCells, sizeCells}
-use Rattle.nodes.specs.OnTree.{kidsOf}
+use Rattle.grammar.specs.Veil.{Free, veil_p, veil_k}
+use Rattle.nodes.specs.Cells.{address_cells, size_cells}
+use Rattle.nodes.specs.OnTree.{kids_of}
 use Rattle.nodes.specs.Order.{order, number_in}
 use Rattle.reading.specs.Values.{value_of, count_of}
-use Rattle.reading.proofs.ReadVeil.{value-veil, veil-cond, order-veil}
+use Rattle.reading.proofs.ReadVeil.{value_veil, veil_cond, order_veil}
 use Rattle.windows.specs.declared.Window.{Window}
 use Rattle.windows.specs.declared.Window.TheVariants.{To, Nowhere, Unreadable}
-use Rattle.subtree.specs.Names.{regName, rangesName, statusName, stdoutPathName, compatibleName, chosenName, aliasesName}
-use Rattle.subtree.specs.Subtree.{propsOf, underRoot}
-use Rattle.text.specs.Strings.{stringIn}
+use Rattle.subtree.specs.Names.{reg_name, ranges_name, status_name, stdout_path_name, compatible_name, chosen_name, aliases_name}
+use Rattle.subtree.specs.Subtree.{props_of, under_root}
+use Rattle.text.specs.Strings.{string_in}
 use Rattle.translation.specs.declared.Sought.{Sought}
 use Rattle.translation.specs.declared.Sought.TheVariants.{FirstReg}
-use Rattle.translation.specs.Translation.{address_of, size_of, over, onward, climb, climbed, Start, from, no_start, start_of, fromStart, parent_of, alongTrail, trail, translated}
-use Rattle.reserved.specs.Reserved.{available, childrenCount}
-use Rattle.stdout.specs.Stdout.{beforeColon, aliased, named, stdoutBy, stdoutIn, uartBy, uartOf}
+use Rattle.translation.specs.Translation.{address_of, size_of, over, onward, climb, climbed, Start, from, no_start, start_of, from_start, parent_of, along_trail, trail, translated}
+use Rattle.reserved.specs.Reserved.{available, children_count}
+use Rattle.stdout.specs.Stdout.{before_colon, aliased, named, stdout_by, stdout_in, uart_by, uart_of}
 use Rattle.value_bytes.specs.Unread.{Unread}
-use Rattle.value_bytes.proofs.VeilShape.{veilTrail, props-veil, kids-veil, under-props, path-veil, trail-veil, parent-veil, there-veil, kept-veil}
+use Rattle.value_bytes.proofs.VeilShape.{veil_trail, props_veil, kids_veil, under_props, path_veil, trail_veil, parent_veil, there_veil, kept_veil}
 
-onward-same : (w : Window) (f g : ℕ → Window) → ((x : ℕ) → f x ≡ g x) → onward w f ≡ onward w g
-onward-same (To x) f g h = h x
-onward-same Nowhere f g h = refl
-onward-same Unreadable f g h = refl
+onward_same : (w : Window) (f g : ℕ → Window) → ((x : ℕ) → f x ≡ g x) → onward w f ≡ onward w g
+onward_same (To x) f g h = h x
+onward_same Nowhere f g h = refl
+onward_same Unreadable f g h = refl
 
 module _ {free : Free} {t : Nodes} (k : Unread free t) where
   -- ── Cell counts ──
-  pub address-veil : (ps : List Property) → address_of (veilP free ps) ≡ address_of ps
+  pub address_veil : (ps : List Property) → address_of (veil_p free ps) ≡ address_of ps
   unfolding address_of
-  address-veil ps = ap count_of (value-veil free addressCells k.address-cells ps)
+  address_veil ps = ap count_of (value_veil free address_cells k.address_cells_lem ps)
 
-  pub size-veil : (ps : List Property) → size_of (veilP free ps) ≡ size_of ps
+  pub size_veil : (ps : List Property) → size_of (veil_p free ps) ≡ size_of ps
   unfolding size_of
-  size-veil ps = ap count_of (value-veil free sizeCells k.size-cells ps)
+  size_veil ps = ap count_of (value_veil free size_cells k.size_cells_lem ps)
 
   -- ── Translation ──
-  over-veil : (bus : List Property) (up : CellCount) (address size : ℕ) → over (veilP free bus) up address size ≡ over bus up address size
+  over_veil : (bus : List Property) (up : CellCount) (address size : ℕ) → over (veil_p free bus) up address size ≡ over bus up address size
   unfolding over
-  over-veil bus up address size = rw (value-veil free rangesName k.ranges bus, address-veil bus, size-veil bus)
+  over_veil bus up address size = rw (value_veil free ranges_name k.ranges bus, address_veil bus, size_veil bus)
 
-  climb-veil : (above : List (List Property)) (address size : ℕ) → climb (veilTrail free above) address size ≡ climb above address size
-  unfolding climb veilTrail
-  climb-veil [] address size = refl
-  climb-veil (root ∷ []) address size = refl
-  climb-veil (bus ∷ up ∷ above) address size =
-      rw (address-veil up, over-veil bus (address_of up) address size)
-      (onward-same (over bus (address_of up) address size) _ _ (λ x. climb-veil (up ∷ above) x size))
+  climb_veil : (above : List (List Property)) (address size : ℕ) → climb (veil_trail free above) address size ≡ climb above address size
+  unfolding climb veil_trail
+  climb_veil [] address size = refl
+  climb_veil (root ∷ []) address size = refl
+  climb_veil (bus ∷ up ∷ above) address size =
+      rw (address_veil up, over_veil bus (address_of up) address size)
+      (onward_same (over bus (address_of up) address size) _ _ (λ x. climb_veil (up ∷ above) x size))
 
-  start-veil : (s : Start) (above : List (List Property)) (n : ℕ) → fromStart s (veilTrail free above) n ≡ fromStart s above n
+  start_veil : (s : Start) (above : List (List Property)) (n : ℕ) → from_start s (veil_trail free above) n ≡ from_start s above n
   unfolding climbed
-  start-veil no_start above n = refl
-  start-veil (from r) above n = rw (climb-veil above r.address r.size)
+  start_veil no_start above n = refl
+  start_veil (from r) above n = rw (climb_veil above r.address r.size)
 
-  along-veil : (l : List (List Property)) (s : Sought) (n : ℕ) → alongTrail (veilTrail free l) s n ≡ alongTrail l s n
-  unfolding veilTrail
-  along-veil [] s n = refl
-  along-veil (own ∷ above) s n =
-      rw (parent-veil free above, address-veil (parent_of above), size-veil (parent_of above), value-veil free regName k.reg own)
-      (start-veil (start_of s (address_of (parent_of above)) (size_of (parent_of above)) (value_of regName own)) above n)
+  along_veil : (l : List (List Property)) (s : Sought) (n : ℕ) → along_trail (veil_trail free l) s n ≡ along_trail l s n
+  unfolding veil_trail
+  along_veil [] s n = refl
+  along_veil (own ∷ above) s n =
+      rw (parent_veil free above, address_veil (parent_of above), size_veil (parent_of above), value_veil free reg_name k.reg own)
+      (start_veil (start_of s (address_of (parent_of above)) (size_of (parent_of above)) (value_of reg_name own)) above n)
 
-  translated-veil : (w : Nodes) (q : ℕ) (s : Sought) → translated (veilK free w) q s ≡ translated w q s
-  unfolding translated veilTrail
-  translated-veil w q s =
-      rw (props-veil free w, kids-veil free w, order-veil free (kidsOf w) [], trail-veil free q (kidsOf w) (propsOf w ∷ []))
-      (along-veil (trail q (kidsOf w) (propsOf w ∷ [])) s (number_in (order (kidsOf w) []) q 1))
+  translated_veil : (w : Nodes) (q : ℕ) (s : Sought) → translated (veil_k free w) q s ≡ translated w q s
+  unfolding translated veil_trail
+  translated_veil w q s =
+      rw (props_veil free w, kids_veil free w, order_veil free (kids_of w) [], trail_veil free q (kids_of w) (props_of w ∷ []))
+      (along_veil (trail q (kids_of w) (props_of w ∷ [])) s (number_in (order (kids_of w) []) q 1))
 
   -- ── /reserved-memory ──
-  pub available-veil : (ps : List Property) → available (veilP free ps) ≡ available ps
+  pub available_veil : (ps : List Property) → available (veil_p free ps) ≡ available ps
   unfolding available
-  available-veil ps = rw (value-veil free statusName k.status ps)
+  available_veil ps = rw (value_veil free status_name k.status ps)
 
-  pub children-veil : (root ps : List Property) → childrenCount (veilP free root) (veilP free ps) ≡ childrenCount root ps
-  unfolding childrenCount
-  children-veil root ps =
+  pub children_veil : (root ps : List Property) → children_count (veil_p free root) (veil_p free ps) ≡ children_count root ps
+  unfolding children_count
+  children_veil root ps =
       rw (
-        value-veil free addressCells k.address-cells root,
-        value-veil free addressCells k.address-cells ps,
-        value-veil free sizeCells k.size-cells root,
-        value-veil free sizeCells k.size-cells ps,
-        value-veil free rangesName k.ranges ps,
+        value_veil free address_cells k.address_cells_lem root,
+        value_veil free address_cells k.address_cells_lem ps,
+        value_veil free size_cells k.size_cells_lem root,
+        value_veil free size_cells k.size_cells_lem ps,
+        value_veil free ranges_name k.ranges ps,
       )
 
   -- ── The console, of this tree: none of its aliases is free ──
-  aliased-veil : (o : Option (List ℕ)) → aliased (veilK free t) o ≡ veilK free (aliased t o)
-  unfolding veilK
-  aliased-veil nothing = refl
-  aliased-veil (some path) = path-veil free t path
+  aliased_veil : (o : Option (List ℕ)) → aliased (veil_k free t) o ≡ veil_k free (aliased t o)
+  unfolding veil_k
+  aliased_veil nothing = refl
+  aliased_veil (some path) = path_veil free t path
 
-  named-veil : (s : List ℕ) → named (veilK free t) s ≡ veilK free (named t s)
+  named_veil : (s : List ℕ) → named (veil_k free t) s ≡ veil_k free (named t s)
   unfolding named
-  named-veil s =
+  named_veil s =
       simp
-      (under-props free aliasesName t, kept-veil free k.aliases, path-veil free t s, aliased-veil, veil-cond free)
+      (under_props free aliases_name t, kept_veil free k.aliases, path_veil free t s, aliased_veil, veil_cond free)
 
-  by-veil : (o : Option (List ℕ)) → stdoutBy (veilK free t) o ≡ veilK free (stdoutBy t o)
-  unfolding veilK
-  by-veil nothing = refl
-  by-veil (some s) = named-veil (beforeColon s)
+  by_veil : (o : Option (List ℕ)) → stdout_by (veil_k free t) o ≡ veil_k free (stdout_by t o)
+  unfolding veil_k
+  by_veil nothing = refl
+  by_veil (some s) = named_veil (before_colon s)
 
-  stdout-veil : stdoutIn (veilK free t) ≡ veilK free (stdoutIn t)
-  unfolding stdoutIn
-  stdout-veil =
-      rw (under-props free chosenName t, value-veil free stdoutPathName k.stdout-path (propsOf (underRoot chosenName t)))
-      (by-veil (stringIn (value_of stdoutPathName (propsOf (underRoot chosenName t)))))
+  stdout_veil : stdout_in (veil_k free t) ≡ veil_k free (stdout_in t)
+  unfolding stdout_in
+  stdout_veil =
+      rw (under_props free chosen_name t, value_veil free stdout_path_name k.stdout_path (props_of (under_root chosen_name t)))
+      (by_veil (string_in (value_of stdout_path_name (props_of (under_root chosen_name t)))))
 
-  at-veil : (w : Nodes) → uartBy (veilK free t) (veilK free w) ≡ uartBy t w
-  unfolding veilK
-  at-veil none = refl
-  at-veil (node q nm ps kids rest) = rw (there-veil free compatibleName ps, translated-veil t q FirstReg)
+  at_veil : (w : Nodes) → uart_by (veil_k free t) (veil_k free w) ≡ uart_by t w
+  unfolding veil_k
+  at_veil none = refl
+  at_veil (node q nm ps kids rest) = rw (there_veil free compatible_name ps, translated_veil t q FirstReg)
 
-  pub uart-veil : uartOf (veilK free t) ≡ uartOf t
-  unfolding uartOf
-  uart-veil = rw stdout-veil (at-veil (stdoutIn t))
+  pub uart_veil : uart_of (veil_k free t) ≡ uart_of t
+  unfolding uart_of
+  uart_veil = rw stdout_veil (at_veil (stdout_in t))

@@ -8,115 +8,115 @@ use mathlib.Core.Option.{some}
 use mathlib.Core.List.{List, [], ◌∷◌}
 use lib.Dec.{eqb}
 use Rattle.fdt.specs.Tree.{Property, Nodes, none, node}
-use Rattle.grammar.specs.Veil.{Free, veil, veilP, veilK}
-use Rattle.nodes.specs.Nav.{sameBytes}
-use Rattle.nodes.specs.OnTree.{kidsOf}
+use Rattle.grammar.specs.Veil.{Free, veil, veil_p, veil_k}
+use Rattle.nodes.specs.Nav.{same_bytes}
+use Rattle.nodes.specs.OnTree.{kids_of}
 use Rattle.reading.specs.Values.{value_of}
-use Rattle.reading.proofs.ReadVeil.{veil-cond, find-veil}
-use Rattle.subtree.specs.Names.{aliasesName}
-use Rattle.subtree.specs.Subtree.{propsOf, underRoot, goTo, pathTo}
+use Rattle.reading.proofs.ReadVeil.{veil_cond, find_veil}
+use Rattle.subtree.specs.Names.{aliases_name}
+use Rattle.subtree.specs.Subtree.{props_of, under_root, go_to, path_to}
 use Rattle.translation.specs.Translation.{or_else, trail, parent_of}
-use Rattle.stdout.specs.Stdout.{isThere}
-use Rattle.value_bytes.specs.Unread.{AllKept, no-property, kept, Unread}
+use Rattle.stdout.specs.Stdout.{is_there}
+use Rattle.value_bytes.specs.Unread.{AllKept, no_property, kept, Unread}
 
 -- the properties of each node on a trail, veiled
-unfoldable pub veilTrail : Free → List (List Property) → List (List Property)
-veilTrail free [] = []
-veilTrail free (ps ∷ above) = veilP free ps ∷ veilTrail free above
+unfoldable pub veil_trail : Free → List (List Property) → List (List Property)
+veil_trail free [] = []
+veil_trail free (ps ∷ above) = veil_p free ps ∷ veil_trail free above
 
 module _ (free : Free) where
   -- ── From a node on ──
-  pub props-veil : (t : Nodes) → propsOf (veilK free t) ≡ veilP free (propsOf t)
-  unfolding veilK veilP
-  props-veil none = refl
-  props-veil (node q nm ps kids rest) = refl
+  pub props_veil : (t : Nodes) → props_of (veil_k free t) ≡ veil_p free (props_of t)
+  unfolding veil_k veil_p
+  props_veil none = refl
+  props_veil (node q nm ps kids rest) = refl
 
-  pub kids-veil : (t : Nodes) → kidsOf (veilK free t) ≡ veilK free (kidsOf t)
-  unfolding veilK
-  kids-veil none = refl
-  kids-veil (node q nm ps kids rest) = refl
+  pub kids_veil : (t : Nodes) → kids_of (veil_k free t) ≡ veil_k free (kids_of t)
+  unfolding veil_k
+  kids_veil none = refl
+  kids_veil (node q nm ps kids rest) = refl
 
-  pub under-veil : (name : List ℕ) (t : Nodes) → underRoot name (veilK free t) ≡ veilK free (underRoot name t)
-  under-veil name t = rw (kids-veil t) (find-veil free name (kidsOf t))
+  pub under_veil : (name : List ℕ) (t : Nodes) → under_root name (veil_k free t) ≡ veil_k free (under_root name t)
+  under_veil name t = rw (kids_veil t) (find_veil free name (kids_of t))
 
-  pub under-props : (name : List ℕ) (t : Nodes) → propsOf (underRoot name (veilK free t)) ≡ veilP free (propsOf (underRoot name t))
-  under-props name t = rw (under-veil name t) (props-veil (underRoot name t))
+  pub under_props : (name : List ℕ) (t : Nodes) → props_of (under_root name (veil_k free t)) ≡ veil_p free (props_of (under_root name t))
+  under_props name t = rw (under_veil name t) (props_veil (under_root name t))
 
-  go-veil : (steps : List (List ℕ)) (t : Nodes) → goTo (veilK free t) steps ≡ veilK free (goTo t steps)
-  unfolding goTo veilK
-  go-veil [] t = refl
-  go-veil ([] ∷ steps) t = refl
-  go-veil ((x ∷ step) ∷ steps) t = rw (under-veil (x ∷ step) t) (go-veil steps (underRoot (x ∷ step) t))
+  go_veil : (steps : List (List ℕ)) (t : Nodes) → go_to (veil_k free t) steps ≡ veil_k free (go_to t steps)
+  unfolding go_to veil_k
+  go_veil [] t = refl
+  go_veil ([] ∷ steps) t = refl
+  go_veil ((x ∷ step) ∷ steps) t = rw (under_veil (x ∷ step) t) (go_veil steps (under_root (x ∷ step) t))
 
-  pub path-veil : (t : Nodes) (p : List ℕ) → pathTo (veilK free t) p ≡ veilK free (pathTo t p)
-  unfolding pathTo veilK
-  path-veil t p = simp (go-veil, veil-cond free)
+  pub path_veil : (t : Nodes) (p : List ℕ) → path_to (veil_k free t) p ≡ veil_k free (path_to t p)
+  unfolding path_to veil_k
+  path_veil t p = simp (go_veil, veil_cond free)
 
   -- ── The trail to a place ──
-  else-veil : (x y : List (List Property)) → or_else (veilTrail free x) (veilTrail free y) ≡ veilTrail free (or_else x y)
-  unfolding veilTrail
-  else-veil [] y = refl
-  else-veil (ps ∷ x) y = refl
+  else_veil : (x y : List (List Property)) → or_else (veil_trail free x) (veil_trail free y) ≡ veil_trail free (or_else x y)
+  unfolding veil_trail
+  else_veil [] y = refl
+  else_veil (ps ∷ x) y = refl
 
-  pub trail-veil : (q : ℕ) (t : Nodes) (above : List (List Property))
-      → trail q (veilK free t) (veilTrail free above) ≡ veilTrail free (trail q t above)
-  unfolding trail veilK veilTrail
-  trail-veil q none above = refl
-  trail-veil q (node p nm ps kids rest) above =
-      rw (trail-veil q kids (ps ∷ above), trail-veil q rest above, else-veil (trail q kids (ps ∷ above)) (trail q rest above)) (go (eqb p q))
+  pub trail_veil : (q : ℕ) (t : Nodes) (above : List (List Property))
+      → trail q (veil_k free t) (veil_trail free above) ≡ veil_trail free (trail q t above)
+  unfolding trail veil_k veil_trail
+  trail_veil q none above = refl
+  trail_veil q (node p nm ps kids rest) above =
+      rw (trail_veil q kids (ps ∷ above), trail_veil q rest above, else_veil (trail q kids (ps ∷ above)) (trail q rest above)) (go (eqb p q))
     where
       go : (b : Bool)
-          → cond b (veilP free ps ∷ veilTrail free above) (veilTrail free (or_else (trail q kids (ps ∷ above)) (trail q rest above)))
-          ≡ veilTrail free (cond b (ps ∷ above) (or_else (trail q kids (ps ∷ above)) (trail q rest above)))
+          → cond b (veil_p free ps ∷ veil_trail free above) (veil_trail free (or_else (trail q kids (ps ∷ above)) (trail q rest above)))
+          ≡ veil_trail free (cond b (ps ∷ above) (or_else (trail q kids (ps ∷ above)) (trail q rest above)))
       go true = refl
       go false = refl
 
-  pub parent-veil : (above : List (List Property)) → parent_of (veilTrail free above) ≡ veilP free (parent_of above)
-  unfolding veilTrail veilP
-  parent-veil [] = refl
-  parent-veil (ps ∷ above) = refl
+  pub parent_veil : (above : List (List Property)) → parent_of (veil_trail free above) ≡ veil_p free (parent_of above)
+  unfolding veil_trail veil_p
+  parent_veil [] = refl
+  parent_veil (ps ∷ above) = refl
 
   -- ── Properties ──
   -- a property of a name is there, whatever its value
-  pub there-veil : (name : List ℕ) (ps : List Property) → isThere (value_of name (veilP free ps)) ≡ isThere (value_of name ps)
-  unfolding value_of veilP veil
-  there-veil name [] = refl
-  there-veil name (x ∷ ps) = go (sameBytes x.name name) _ (there-veil name ps)
+  pub there_veil : (name : List ℕ) (ps : List Property) → is_there (value_of name (veil_p free ps)) ≡ is_there (value_of name ps)
+  unfolding value_of veil_p veil
+  there_veil name [] = refl
+  there_veil name (x ∷ ps) = go (same_bytes x.name name) _ (there_veil name ps)
     where
-      go : (b : Bool) (v : List ℕ) → isThere (value_of name (veilP free ps)) ≡ isThere (value_of name ps)
-          → isThere (cond b (some v) (value_of name (veilP free ps))) ≡ isThere (cond b (some x.value) (value_of name ps))
+      go : (b : Bool) (v : List ℕ) → is_there (value_of name (veil_p free ps)) ≡ is_there (value_of name ps)
+          → is_there (cond b (some v) (value_of name (veil_p free ps))) ≡ is_there (cond b (some x.value) (value_of name ps))
       go true v e = refl
       go false v e = e
 
   -- where none is free, nothing is blanked
-  pub kept-veil : {ps : List Property} → AllKept free ps → veilP free ps ≡ ps
-  unfolding veilP veil
-  kept-veil no-property = refl
-  kept-veil (kept e k) = rw (e, kept-veil k)
+  pub kept_veil : {ps : List Property} → AllKept free ps → veil_p free ps ≡ ps
+  unfolding veil_p veil
+  kept_veil no_property = refl
+  kept_veil (kept e k) = rw (e, kept_veil k)
 
   -- that none is free is seen through the veil
-  kept-behind : (ps : List Property) → AllKept free (veilP free ps) → AllKept free ps
-  unfolding veilP veil
-  kept-behind [] k = no-property
-  kept-behind (x ∷ ps) (kept e k) = kept e (kept-behind ps k)
+  kept_behind : (ps : List Property) → AllKept free (veil_p free ps) → AllKept free ps
+  unfolding veil_p veil
+  kept_behind [] k = no_property
+  kept_behind (x ∷ ps) (kept e k) = kept e (kept_behind ps k)
 
   -- so what is unread of a tree is unread of each that is equal to it once veiled
-  pub unread-alike : (t u : Nodes) → veilK free t ≡ veilK free u → Unread free t → Unread free u
-  unread-alike t u e k =
+  pub unread_alike : (t u : Nodes) → veil_k free t ≡ veil_k free u → Unread free t → Unread free u
+  unread_alike t u e k =
       record {
-        address-cells = k.address-cells;
-        size-cells = k.size-cells;
+        address_cells_lem = k.address_cells_lem;
+        size_cells_lem = k.size_cells_lem;
         ranges = k.ranges;
         reg = k.reg;
         status = k.status;
         size = k.size;
-        alloc-ranges = k.alloc-ranges;
+        alloc_ranges = k.alloc_ranges;
         model = k.model;
-        stdout-path = k.stdout-path;
-        aliases = kept-behind _ (subst (AllKept free) same k.aliases);
+        stdout_path = k.stdout_path;
+        aliases = kept_behind _ (subst (AllKept free) same k.aliases);
       }
     where
-      same : propsOf (underRoot aliasesName t) ≡ veilP free (propsOf (underRoot aliasesName u))
+      same : props_of (under_root aliases_name t) ≡ veil_p free (props_of (under_root aliases_name u))
       same =
-          sym (kept-veil k.aliases) ∙ sym (under-props aliasesName t) ∙ ap (λ (x : Nodes). propsOf (underRoot aliasesName x)) e
-          ∙ under-props aliasesName u
+          sym (kept_veil k.aliases) ∙ sym (under_props aliases_name t) ∙ ap (λ (x : Nodes). props_of (under_root aliases_name x)) e
+          ∙ under_props aliases_name u

@@ -22,8 +22,8 @@ use Rattle.cells.specs.declared.CellCount.{CellCount}
 use Rattle.cells.specs.declared.Region.{Region}
 use Rattle.cells.specs.declared.RegRow.{RegRow}
 use Rattle.cells.specs.declared.RegRow.TheVariants.{RegAt}
-use Rattle.cells.specs.Count.{addressWidth, size_width}
-use Rattle.cells.specs.Rows.{reg_of, rangesOf, regRow}
+use Rattle.cells.specs.Count.{address_width, size_width}
+use Rattle.cells.specs.Rows.{reg_of, ranges_of, reg_row}
 use Rattle.cells.proofs.RowsLaws.{reg-there}
 use Rattle.windows.specs.declared.Window.{Window}
 use Rattle.reservations.specs.declared.Reservation.{Reservation}
@@ -32,40 +32,40 @@ use Rattle.reservations.specs.Reservations.{entry_of}
 use Rattle.reservations.specs.contracts.Reservation as reservation
 use Rattle.nodes.specs.declared.Found.{Found}
 use Rattle.nodes.specs.declared.Found.TheVariants.{At, Nothing}
-use Rattle.nodes.specs.Nav.{inside, propAt, childAt}
-use Rattle.nodes.specs.Path.{pathAt}
-use Rattle.subtree.specs.Names.{rangesName, socName, reservedMemoryName}
-use Rattle.subtree.specs.Subtree.{nodeAt, rootAt, propsOf}
-use Rattle.reserved.specs.Reserved.{childrenCount}
+use Rattle.nodes.specs.Nav.{inside, prop_at, child_at}
+use Rattle.nodes.specs.Path.{path_at}
+use Rattle.subtree.specs.Names.{ranges_name, soc_name, reserved_memory_name}
+use Rattle.subtree.specs.Subtree.{node_at, root_at, props_of}
+use Rattle.reserved.specs.Reserved.{children_count}
 use Rattle.stdout.specs.declared.Uart.{Uart}
-use Rattle.stdout.specs.Stdout.{uartOf}
+use Rattle.stdout.specs.Stdout.{uart_of}
 use Rattle.claims.specs.declared.Way.{Way}
 use Rattle.claims.specs.declared.Way.TheVariants.{Reserve, Soc, Controllers}
-use Rattle.claims.specs.Claims.{blockClaim, landsBy, landed, claimBy, uartClaim}
+use Rattle.claims.specs.Claims.{block_claim, lands_by, landed, claim_by, uart_claim}
 use Rattle.visit.specs.declared.Stage.{Stage}
 use Rattle.visit.specs.declared.Cursor.{Cursor}
 use Rattle.visit.specs.declared.Step.TheVariants.{On}
-use Rattle.visit.specs.Steps.{nextRow, slash, whereHere, parentAt, enterAt, yields, entryStep, rowStep, childStep, stageStep, step_of}
+use Rattle.visit.specs.Steps.{next_row, slash, where_here, parent_at, enter_at, yields, entry_step, row_step, child_step, stage_step, step_of}
 
 -- ── The parent of a rule's children ──
-module _ (b n : List ℕ) (f : Found) (is : f ≡ pathAt b n slash) where
-  pub rootless : f ≡ Nothing → (way : Way) → Nothing ≡ parentAt b n way
-  unfolding parentAt
+module _ (b n : List ℕ) (f : Found) (is : f ≡ path_at b n slash) where
+  pub rootless : f ≡ Nothing → (way : Way) → Nothing ≡ parent_at b n way
+  unfolding parent_at
   rootless e Reserve = rw (← is, e)
   rootless e Soc = rw (← is, e)
   rootless e Controllers = rw (← is, e)
 
   -- g is the root's child of the name
   module _ (r : ℕ) (root : f ≡ At r) (g h : Found) (found : g ≡ h) where
-    pub reserved-is :
-        g ≡ childAt b n r reservedMemoryName
-        → inside Nothing (λ q. cond (childrenCount (propsOf (nodeAt b n r)) (propsOf (nodeAt b n q))) (At q) Nothing) h ≡ parentAt b n Reserve
-    unfolding parentAt
-    reserved-is e = rw (← is, root, ← e, found)
+    pub reserved_is :
+        g ≡ child_at b n r reserved_memory_name
+        → inside Nothing (λ q. cond (children_count (props_of (node_at b n r)) (props_of (node_at b n q))) (At q) Nothing) h ≡ parent_at b n Reserve
+    unfolding parent_at
+    reserved_is e = rw (← is, root, ← e, found)
 
-    pub soc-is : g ≡ childAt b n r socName → inside Nothing (λ q. whereHere (propAt b n q rangesName) q) h ≡ parentAt b n Soc
-    unfolding parentAt
-    soc-is e = rw (← is, root, ← e, found)
+    pub soc_is : g ≡ child_at b n r soc_name → inside Nothing (λ q. where_here (prop_at b n q ranges_name) q) h ≡ parent_at b n Soc
+    unfolding parent_at
+    soc_is e = rw (← is, root, ← e, found)
 
 -- ── The reservation block ──
 -- an entry that is none, as a match on it tells: by its place among the cases
@@ -73,10 +73,10 @@ pub entry-none :
     (b n v : List ℕ) (i : ℕ) (c : Cursor) (x : Reservation)
     → x ≡ entry_of v i
     → (Declared.tag_of reservation.the_type x ≡ 1) ⊎ (Declared.tag_of reservation.the_type x ≡ 2)
-    → On (enterAt b n Reserve) ≡ entryStep b n (entry_of v i) c
+    → On (enter_at b n Reserve) ≡ entry_step b n (entry_of v i) c
 entry-none b n v i c x is k = rw (← is) (go x k)
   where
-    go : (y : Reservation) → (Declared.tag_of reservation.the_type y ≡ 1) ⊎ (Declared.tag_of reservation.the_type y ≡ 2) → On (enterAt b n Reserve) ≡ entryStep b n y c
+    go : (y : Reservation) → (Declared.tag_of reservation.the_type y ≡ 1) ⊎ (Declared.tag_of reservation.the_type y ≡ 2) → On (enter_at b n Reserve) ≡ entry_step b n y c
     go (Entry r) l = absurd (⊎_elim (λ e. omega arith) (λ e. omega arith) l)
     go End l = refl
     go Past l = refl
@@ -88,30 +88,30 @@ pub entry_gives :
     → (r : Region)
     → x ≡ Entry r
     → (o : Option Claim)
-    → blockClaim r ≡ o
-    → d ≡ nextRow c
-    → yields o d ≡ entryStep b n (entry_of v i) c
+    → block_claim r ≡ o
+    → d ≡ next_row c
+    → yields o d ≡ entry_step b n (entry_of v i) c
 entry_gives b n v i c d x is r e o q s = rw (← is, e, q, s)
 
 module _ (r : Region) where
-  pub block-empty : r.size ≡ 0 → blockClaim r ≡ nothing
-  unfolding blockClaim
-  block-empty h = rw (eq-eqb r.size 0 h)
+  pub block_empty : r.size ≡ 0 → block_claim r ≡ nothing
+  unfolding block_claim
+  block_empty h = rw (eq-eqb r.size 0 h)
 
-  pub block-far : 0xffffffffffffffff - r.address < r.size → blockClaim r ≡ nothing
-  unfolding blockClaim
-  block-far h = let m : 2 ^ 64 ≤ r.address + r.size = omega arith in rw (le-leb (2 ^ 64) (r.address + r.size) m, or-true)
+  pub block_far : 0xffffffffffffffff - r.address < r.size → block_claim r ≡ nothing
+  unfolding block_claim
+  block_far h = let m : 2 ^ 64 ≤ r.address + r.size = omega arith in rw (le-leb (2 ^ 64) (r.address + r.size) m, or-true)
 
   pub block_near :
-      (r.size ≡ 0 → ⊥) → r.size ≤ 0xffffffffffffffff - r.address → blockClaim r ≡ some (claim r.address r.size (number_of Reserved))
-  unfolding blockClaim
+      (r.size ≡ 0 → ⊥) → r.size ≤ 0xffffffffffffffff - r.address → block_claim r ≡ some (claim r.address r.size (number_of Reserved))
+  unfolding block_claim
   block_near n h =
       let m : r.address + r.size < 2 ^ 64 = omega arith in
       rw (ne_eqb r.size 0 n, lt-leb (2 ^ 64) (r.address + r.size) m)
 
 -- ── Rows of a value ──
-part-short : (s : List ℕ) (at n : ℕ) → length (part_of s at n) ≤ length s
-part-short s at n = go (leb (at + n) (length s)) refl
+part_short : (s : List ℕ) (at n : ℕ) → length (part_of s at n) ≤ length s
+part_short s at n = go (leb (at + n) (length s)) refl
   where
     go : (t : Bool) → leb (at + n) (length s) ≡ t → length (part_of s at n) ≤ length s
     go true e = let m : at + n ≤ length s = leb-true _ _ e in omega (arith, part_length s at n m)
@@ -121,32 +121,32 @@ part-short s at n = go (leb (at + n) (length s)) refl
 pub row_inside :
     (s : List ℕ) (at n : ℕ) (v : List ℕ) (a c : CellCount) (i : ℕ) (r : Region)
     → v ≡ part_of s at n
-    → regRow (reg_of a c v) i ≡ RegAt r
+    → reg_row (reg_of a c v) i ≡ RegAt r
     → i < length s
 row_inside s at n v a c i r p e =
-    let h = (reg-there a c v i (addressWidth a) (size_width c) refl refl r).0 e in
-    omega (arith, h.1, div-le_self (length v) (addressWidth a + size_width c), ap length p, part-short s at n)
+    let h = (reg-there a c v i (address_width a) (size_width c) refl refl r).0 e in
+    omega (arith, h.1, div-le_self (length v) (address_width a + size_width c), ap length p, part_short s at n)
 
 module _ (b n : List ℕ) (arm : Bool) (way : Way) (c : Cursor) (v : List ℕ) (x y : RegRow) where
-  pub row_is : v ≡ part_of b c.value.at c.value.len → x ≡ regRow (reg_of c.own c.length v) c.row → x ≡ y
-      → rowStep b n arm way c y ≡ childStep b n arm way c
-  unfolding childStep
+  pub row_is : v ≡ part_of b c.value.at c.value.len → x ≡ reg_row (reg_of c.own c.length v) c.row → x ≡ y
+      → row_step b n arm way c y ≡ child_step b n arm way c
+  unfolding child_step
   row_is p is e = rw (← p, ← is, e)
 
 -- ── Where a region lies ──
 module _ (b : List ℕ) (at n : ℕ) (v : List ℕ) (part : v ≡ part_of b at n) (way : Way) (a p c : CellCount) (r : Region) (d : Cursor) (w x : Window) where
   pub lies :
-      w ≡ landsBy way (rangesOf a p c v) r.address r.size → w ≡ x
-      → yields (landed way x r.size) d ≡ yields (claimBy way (rangesOf a p c (part_of b at n)) r) d
-  unfolding claimBy
+      w ≡ lands_by way (ranges_of a p c v) r.address r.size → w ≡ x
+      → yields (landed way x r.size) d ≡ yields (claim_by way (ranges_of a p c (part_of b at n)) r) d
+  unfolding claim_by
   lies is e = rw (← part, ← is, e)
 
 -- ── The console ──
-pub console-is : (b n : List ℕ) (d : Cursor) → d ≡ enterAt b n Controllers → (u w : Uart) → u ≡ uartOf (rootAt b n) → u ≡ w
-    → yields (uartClaim w) d ≡ yields (uartClaim (uartOf (rootAt b n))) (enterAt b n Controllers)
-console-is b n d s u w is e = rw (← is, e, s)
+pub console_is : (b n : List ℕ) (d : Cursor) → d ≡ enter_at b n Controllers → (u w : Uart) → u ≡ uart_of (root_at b n) → u ≡ w
+    → yields (uart_claim w) d ≡ yields (uart_claim (uart_of (root_at b n))) (enter_at b n Controllers)
+console_is b n d s u w is e = rw (← is, e, s)
 
 -- ── A step ──
-pub at_stage : (b n block : List ℕ) (arm : Bool) (c : Cursor) (s : Stage) → c.stage ≡ s → stageStep b n block arm s c ≡ step_of b n block arm c
+pub at_stage : (b n block : List ℕ) (arm : Bool) (c : Cursor) (s : Stage) → c.stage ≡ s → stage_step b n block arm s c ≡ step_of b n block arm c
 unfolding step_of
-at_stage b n block arm c s e = ap (λ (x : Stage). stageStep b n block arm x c) (sym e)
+at_stage b n block arm c s e = ap (λ (x : Stage). stage_step b n block arm x c) (sym e)

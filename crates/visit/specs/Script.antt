@@ -8,19 +8,19 @@ use Rattle.entry.specs.Claim.{Claim, claim}
 use Rattle.cells.specs.declared.CellCount.{CellCount}
 use Rattle.cells.specs.declared.Region.{Region}
 use Rattle.cells.specs.declared.Range.{Range}
-use Rattle.cells.specs.Rows.{Table, rows, reg_of, rangesOf}
-use Rattle.reservations.specs.Reservations.{entriesFrom}
+use Rattle.cells.specs.Rows.{Table, rows, reg_of, ranges_of}
+use Rattle.reservations.specs.Reservations.{entries_from}
 use Rattle.fdt.specs.Tree.{Nodes, none, node}
-use Rattle.nodes.specs.OnTree.{kidsOf}
+use Rattle.nodes.specs.OnTree.{kids_of}
 use Rattle.reading.specs.Values.{value_of}
-use Rattle.subtree.specs.Names.{rangesName, socName, reservedMemoryName}
-use Rattle.subtree.specs.Subtree.{at, rootAt, propsOf, underRoot, Stands}
+use Rattle.subtree.specs.Names.{ranges_name, soc_name, reserved_memory_name}
+use Rattle.subtree.specs.Subtree.{at, root_at, props_of, under_root, Stands}
 use Rattle.translation.specs.Translation.{address_of, size_of}
-use Rattle.reserved.specs.Reserved.{childrenCount}
-use Rattle.stdout.specs.Stdout.{uartOf}
+use Rattle.reserved.specs.Reserved.{children_count}
+use Rattle.stdout.specs.Stdout.{uart_of}
 use Rattle.claims.specs.declared.Way.{Way}
 use Rattle.claims.specs.declared.Way.TheVariants.{Reserve, Soc, Controllers}
-use Rattle.claims.specs.Claims.{and_then, blockClaim, entries, childRegions, claimBy, uartClaim, isVirt}
+use Rattle.claims.specs.Claims.{and_then, block_claim, entries, child_regions, claim_by, uart_claim, is_virt}
 use Rattle.visit.specs.declared.Stage.{Stage}
 use Rattle.visit.specs.declared.Stage.TheVariants.{Entries, Children, Virt, Console, Over}
 use Rattle.visit.specs.declared.Cursor.{Cursor}
@@ -29,78 +29,78 @@ use Rattle.visit.specs.declared.Step.TheVariants.{Claims, On, End}
 use Rattle.visit.specs.Steps.{claimed}
 
 -- the claims among the steps
-unfoldable pub claimsIn : List (Option Claim) → List Claim
-claimsIn [] = []
-claimsIn (x ∷ l) = and_then x (claimsIn l)
+unfoldable pub claims_in : List (Option Claim) → List Claim
+claims_in [] = []
+claims_in (x ∷ l) = and_then x (claims_in l)
 
-unfoldable pub rowsScript : Way → Table Range → List Region → List (Option Claim)
-rowsScript way t [] = []
-rowsScript way t (r ∷ l) = claimBy way t r ∷ rowsScript way t l
+unfoldable pub rows_script : Way → Table Range → List Region → List (Option Claim)
+rows_script way t [] = []
+rows_script way t (r ∷ l) = claim_by way t r ∷ rows_script way t l
 
-unfoldable pub kidsScript : Way → Table Range → CellCount → CellCount → Nodes → List (Option Claim)
-kidsScript way t a c none = []
-kidsScript way t a c (node q nm ps kids rest) = nothing ∷ (rowsScript way t (childRegions way a c ps) ++ kidsScript way t a c rest)
+unfoldable pub kids_script : Way → Table Range → CellCount → CellCount → Nodes → List (Option Claim)
+kids_script way t a c none = []
+kids_script way t a c (node q nm ps kids rest) = nothing ∷ (rows_script way t (child_regions way a c ps) ++ kids_script way t a c rest)
 
-unfoldable pub blockScript : List Region → List (Option Claim)
-blockScript [] = []
-blockScript (r ∷ l) = blockClaim r ∷ blockScript l
+unfoldable pub block_script : List Region → List (Option Claim)
+block_script [] = []
+block_script (r ∷ l) = block_claim r ∷ block_script l
 
-abbrev pub socScript : Nodes → Nodes → Option (List ℕ) → List (Option Claim)
-socScript t s nothing = []
-socScript t s (some v) =
-    kidsScript Soc (rangesOf (address_of (propsOf s)) (address_of (propsOf t)) (size_of (propsOf s)) v) (address_of (propsOf s)) (size_of (propsOf s)) (kidsOf s)
+abbrev pub soc_script : Nodes → Nodes → Option (List ℕ) → List (Option Claim)
+soc_script t s nothing = []
+soc_script t s (some v) =
+    kids_script Soc (ranges_of (address_of (props_of s)) (address_of (props_of t)) (size_of (props_of s)) v) (address_of (props_of s)) (size_of (props_of s)) (kids_of s)
 
 -- the children of a rule, of the whole tree
-unfoldable pub wayScript : Nodes → Way → List (Option Claim)
-wayScript t Reserve =
-    cond (childrenCount (propsOf t) (propsOf (underRoot reservedMemoryName t)))
-    (kidsScript Reserve (rows []) (address_of (propsOf (underRoot reservedMemoryName t))) (size_of (propsOf (underRoot reservedMemoryName t))) (kidsOf (underRoot reservedMemoryName t)))
+unfoldable pub way_script : Nodes → Way → List (Option Claim)
+way_script t Reserve =
+    cond (children_count (props_of t) (props_of (under_root reserved_memory_name t)))
+    (kids_script Reserve (rows []) (address_of (props_of (under_root reserved_memory_name t))) (size_of (props_of (under_root reserved_memory_name t))) (kids_of (under_root reserved_memory_name t)))
     []
-wayScript t Soc = socScript t (underRoot socName t) (value_of rangesName (propsOf (underRoot socName t)))
-wayScript t Controllers = kidsScript Controllers (rows []) (address_of (propsOf t)) (size_of (propsOf t)) (kidsOf t)
+way_script t Soc = soc_script t (under_root soc_name t) (value_of ranges_name (props_of (under_root soc_name t)))
+way_script t Controllers = kids_script Controllers (rows []) (address_of (props_of t)) (size_of (props_of t)) (kids_of t)
 
 -- the stages from one on; each row of children is left by a step
-unfoldable pub controllersOn : Nodes → List (Option Claim)
-controllersOn t = wayScript t Controllers ++ (nothing ∷ [])
+unfoldable pub controllers_on : Nodes → List (Option Claim)
+controllers_on t = way_script t Controllers ++ (nothing ∷ [])
 
-unfoldable pub consoleOn : Nodes → List (Option Claim)
-consoleOn t = uartClaim (uartOf t) ∷ controllersOn t
+unfoldable pub console_on : Nodes → List (Option Claim)
+console_on t = uart_claim (uart_of t) ∷ controllers_on t
 
-unfoldable pub socOn : Nodes → List (Option Claim)
-socOn t = wayScript t Soc ++ (nothing ∷ consoleOn t)
+unfoldable pub soc_on : Nodes → List (Option Claim)
+soc_on t = way_script t Soc ++ (nothing ∷ console_on t)
 
-unfoldable pub virtOn : ℕ → List (Option Claim)
-virtOn row =
+unfoldable pub virt_on : ℕ → List (Option Claim)
+virt_on row =
     cond (eqb row 0)
     (some (claim 0x08000000 0x08000000 (number_of Device)) ∷ some (claim 0x10000000 0x30000000 (number_of Device)) ∷ [])
     (some (claim 0x10000000 0x30000000 (number_of Device)) ∷ [])
 
-unfoldable pub devicesOn : Bool → Nodes → List (Option Claim)
-devicesOn arm t = cond (isVirt arm t) (virtOn 0) (socOn t)
+unfoldable pub devices_on : Bool → Nodes → List (Option Claim)
+devices_on arm t = cond (is_virt arm t) (virt_on 0) (soc_on t)
 
-unfoldable pub reservedOn : Bool → Nodes → List (Option Claim)
-reservedOn arm t = wayScript t Reserve ++ (nothing ∷ devicesOn arm t)
+unfoldable pub reserved_on : Bool → Nodes → List (Option Claim)
+reserved_on arm t = way_script t Reserve ++ (nothing ∷ devices_on arm t)
 
 -- what comes after the children of a rule
-unfoldable pub afterOn : Bool → Nodes → Way → List (Option Claim)
-afterOn arm t Reserve = devicesOn arm t
-afterOn arm t Soc = consoleOn t
-afterOn arm t Controllers = []
+unfoldable pub after_on : Bool → Nodes → Way → List (Option Claim)
+after_on arm t Reserve = devices_on arm t
+after_on arm t Soc = console_on t
+after_on arm t Controllers = []
 
 module _ (b n block : List ℕ) (arm : Bool) where
-  abbrev pub stageScript : Stage → Cursor → List (Option Claim)
-  stageScript Entries c = blockScript (entriesFrom (length block / 16 - c.row) block c.row) ++ (nothing ∷ reservedOn arm (rootAt b n))
-  stageScript (Children way) c =
-      rowsScript way (rangesOf c.own c.parent c.length (part_of b c.ranges.at c.ranges.len))
+  abbrev pub stage_script : Stage → Cursor → List (Option Claim)
+  stage_script Entries c = block_script (entries_from (length block / 16 - c.row) block c.row) ++ (nothing ∷ reserved_on arm (root_at b n))
+  stage_script (Children way) c =
+      rows_script way (ranges_of c.own c.parent c.length (part_of b c.ranges.at c.ranges.len))
       (drop c.row (entries (reg_of c.own c.length (part_of b c.value.at c.value.len))))
-      ++ (kidsScript way (rangesOf c.own c.parent c.length (part_of b c.ranges.at c.ranges.len)) c.own c.length (at b n c.next)
-      ++ (nothing ∷ afterOn arm (rootAt b n) way))
-  stageScript Virt c = virtOn c.row
-  stageScript Console c = consoleOn (rootAt b n)
-  stageScript Over c = []
+      ++ (kids_script way (ranges_of c.own c.parent c.length (part_of b c.ranges.at c.ranges.len)) c.own c.length (at b n c.next)
+      ++ (nothing ∷ after_on arm (root_at b n) way))
+  stage_script Virt c = virt_on c.row
+  stage_script Console c = console_on (root_at b n)
+  stage_script Over c = []
 
   unfoldable pub script : Cursor → List (Option Claim)
-  script c = stageScript c.stage c
+  script c = stage_script c.stage c
 
   -- what a step does to what is left
   abbrev pub Follows : Cursor → Step → Type 0

@@ -10,7 +10,7 @@ use Rattle.cells.specs.declared.CellCount.{CellCount}
 use Rattle.cells.specs.declared.CellCount.TheVariants.{Absent}
 use Rattle.cells.specs.declared.RegRow.{RegRow}
 use Rattle.cells.specs.declared.RegRow.TheVariants.{NoReg, PastReg, RegAt}
-use Rattle.cells.specs.Rows.{reg_of, rangesOf, regRow}
+use Rattle.cells.specs.Rows.{reg_of, ranges_of, reg_row}
 use Rattle.fdt.specs.declared.Block.{Block}
 use Rattle.reservations.specs.declared.Reservation.{Reservation}
 use Rattle.reservations.specs.declared.Reservation.TheVariants.{Entry, End as BlockEnd, Past}
@@ -19,17 +19,17 @@ use Rattle.nodes.specs.declared.Found.{Found}
 use Rattle.nodes.specs.declared.Found.TheVariants.{At, Nothing}
 use Rattle.nodes.specs.declared.Value.{Value}
 use Rattle.nodes.specs.declared.Value.TheVariants.{Here, Missing}
-use Rattle.nodes.specs.Nav.{inside, first_at, next_at, propAt, childAt}
-use Rattle.nodes.specs.Path.{pathAt}
-use Rattle.nodes.specs.Cells.{addressCells, sizeCells, countAt}
-use Rattle.subtree.specs.Names.{rangesName, socName, reservedMemoryName}
-use Rattle.subtree.specs.Subtree.{nodeAt, rootAt, propsOf}
-use Rattle.reserved.specs.Reserved.{childrenCount}
-use Rattle.stdout.specs.Stdout.{uartOf}
+use Rattle.nodes.specs.Nav.{inside, first_at, next_at, prop_at, child_at}
+use Rattle.nodes.specs.Path.{path_at}
+use Rattle.nodes.specs.Cells.{address_cells, size_cells, count_at}
+use Rattle.subtree.specs.Names.{ranges_name, soc_name, reserved_memory_name}
+use Rattle.subtree.specs.Subtree.{node_at, root_at, props_of}
+use Rattle.reserved.specs.Reserved.{children_count}
+use Rattle.stdout.specs.Stdout.{uart_of}
 use Rattle.claims.specs.declared.Way.{Way}
 use Rattle.claims.specs.declared.Way.TheVariants.{Reserve, Soc, Controllers}
-use Rattle.claims.specs.Claims.{blockClaim, claimBy, uartClaim, isVirt}
-use Rattle.claims.specs.Values.{childValue}
+use Rattle.claims.specs.Claims.{block_claim, claim_by, uart_claim, is_virt}
+use Rattle.claims.specs.Values.{child_value}
 use Rattle.visit.specs.declared.Stage.{Stage}
 use Rattle.visit.specs.declared.Stage.TheVariants.{Entries, Children, Virt, Console, Over}
 use Rattle.visit.specs.declared.Cursor.{Cursor}
@@ -41,23 +41,23 @@ use Rattle.visit.specs.declared.Step.TheVariants.{Claims, On, End}
 abbrev pub no_part : Block
 no_part = record { at = 0; len = 0 }
 
-abbrev pub cursorAt : Stage → ℕ → Block → Found → CellCount → CellCount → CellCount → Block → Cursor
-cursorAt stage row value next own parent length ranges =
+abbrev pub cursor_at : Stage → ℕ → Block → Found → CellCount → CellCount → CellCount → Block → Cursor
+cursor_at stage row value next own parent length ranges =
     record { stage = stage; row = row; value = value; next = next; own = own; parent = parent; length = length; ranges = ranges }
 
 -- at the start of a stage that has no children
 abbrev pub start_at : Stage → Cursor
-start_at stage = cursorAt stage 0 no_part Nothing Absent Absent Absent no_part
+start_at stage = cursor_at stage 0 no_part Nothing Absent Absent Absent no_part
 
 abbrev pub with_row : Cursor → ℕ → Cursor
-with_row c row = cursorAt c.stage row c.value c.next c.own c.parent c.length c.ranges
+with_row c row = cursor_at c.stage row c.value c.next c.own c.parent c.length c.ranges
 
-abbrev pub nextRow : Cursor → Cursor
-nextRow c = with_row c (c.row + 1)
+abbrev pub next_row : Cursor → Cursor
+next_row c = with_row c (c.row + 1)
 
-abbrev pub partBy : Value → Block
-partBy (Here at len) = record { at = at; len = len }
-partBy Missing = no_part
+abbrev pub part_by : Value → Block
+part_by (Here at len) = record { at = at; len = len }
+part_by Missing = no_part
 
 -- ── Into a row of children ──
 
@@ -65,37 +65,37 @@ partBy Missing = no_part
 abbrev pub slash : List ℕ
 slash = 47 ∷ []
 
-abbrev pub whereHere : Value → ℕ → Found
-whereHere (Here at len) q = At q
-whereHere Missing q = Nothing
+abbrev pub where_here : Value → ℕ → Found
+where_here (Here at len) q = At q
+where_here Missing q = Nothing
 
 -- the node whose children claim by a rule, where they do
-unfoldable pub parentAt : List ℕ → List ℕ → Way → Found
-parentAt b n Reserve =
+unfoldable pub parent_at : List ℕ → List ℕ → Way → Found
+parent_at b n Reserve =
     inside Nothing
-    (λ r. inside Nothing (λ q. cond (childrenCount (propsOf (nodeAt b n r)) (propsOf (nodeAt b n q))) (At q) Nothing) (childAt b n r reservedMemoryName))
-    (pathAt b n slash)
-parentAt b n Soc =
-    inside Nothing (λ r. inside Nothing (λ q. whereHere (propAt b n q rangesName) q) (childAt b n r socName)) (pathAt b n slash)
-parentAt b n Controllers = pathAt b n slash
+    (λ r. inside Nothing (λ q. cond (children_count (props_of (node_at b n r)) (props_of (node_at b n q))) (At q) Nothing) (child_at b n r reserved_memory_name))
+    (path_at b n slash)
+parent_at b n Soc =
+    inside Nothing (λ r. inside Nothing (λ q. where_here (prop_at b n q ranges_name) q) (child_at b n r soc_name)) (path_at b n slash)
+parent_at b n Controllers = path_at b n slash
 
 -- the address cells of the root
-unfoldable pub rootCells : List ℕ → List ℕ → CellCount
-rootCells b n = inside Absent (λ r. countAt b n r addressCells) (pathAt b n slash)
+unfoldable pub root_cells : List ℕ → List ℕ → CellCount
+root_cells b n = inside Absent (λ r. count_at b n r address_cells) (path_at b n slash)
 
 -- `ranges` is read for /soc's children alone
-abbrev pub rangesBy : Way → Value → Block
-rangesBy Reserve v = no_part
-rangesBy Soc v = partBy v
-rangesBy Controllers v = no_part
+abbrev pub ranges_by : Way → Value → Block
+ranges_by Reserve v = no_part
+ranges_by Soc v = part_by v
+ranges_by Controllers v = no_part
 
 -- before the first child
-unfoldable pub enterAt : List ℕ → List ℕ → Way → Cursor
-enterAt b n way =
+unfoldable pub enter_at : List ℕ → List ℕ → Way → Cursor
+enter_at b n way =
     inside (start_at (Children way))
     (λ q.
-    cursorAt (Children way) 0 no_part (first_at b n q) (countAt b n q addressCells) (rootCells b n) (countAt b n q sizeCells) (rangesBy way (propAt b n q rangesName)))
-    (parentAt b n way)
+    cursor_at (Children way) 0 no_part (first_at b n q) (count_at b n q address_cells) (root_cells b n) (count_at b n q size_cells) (ranges_by way (prop_at b n q ranges_name)))
+    (parent_at b n way)
 
 -- ── A step ──
 abbrev pub claimed : Claim → Claimed
@@ -105,47 +105,47 @@ abbrev pub yields : Option Claim → Cursor → Step
 yields nothing c = On c
 yields (some x) c = Claims (claimed x) c
 
-abbrev pub entryStep : List ℕ → List ℕ → Reservation → Cursor → Step
-entryStep b n (Entry r) c = yields (blockClaim r) (nextRow c)
-entryStep b n BlockEnd c = On (enterAt b n Reserve)
-entryStep b n Past c = On (enterAt b n Reserve)
+abbrev pub entry_step : List ℕ → List ℕ → Reservation → Cursor → Step
+entry_step b n (Entry r) c = yields (block_claim r) (next_row c)
+entry_step b n BlockEnd c = On (enter_at b n Reserve)
+entry_step b n Past c = On (enter_at b n Reserve)
 
 module _ (b n : List ℕ) (arm : Bool) where
   -- what comes after the children
   unfoldable pub after_at : Way → Cursor
-  after_at Reserve = cond (isVirt arm (rootAt b n)) (start_at Virt) (enterAt b n Soc)
+  after_at Reserve = cond (is_virt arm (root_at b n)) (start_at Virt) (enter_at b n Soc)
   after_at Soc = start_at Console
   after_at Controllers = start_at Over
 
   -- to the next child, or on
-  abbrev pub childNext : Way → Cursor → Found → Cursor
-  childNext way c (At q) =
-      cursorAt (Children way) 0 (partBy (childValue b n way c.own c.length q)) (next_at b n q) c.own c.parent c.length c.ranges
-  childNext way c Nothing = after_at way
+  abbrev pub child_next : Way → Cursor → Found → Cursor
+  child_next way c (At q) =
+      cursor_at (Children way) 0 (part_by (child_value b n way c.own c.length q)) (next_at b n q) c.own c.parent c.length c.ranges
+  child_next way c Nothing = after_at way
 
-  abbrev pub rowStep : Way → Cursor → RegRow → Step
-  rowStep way c (RegAt r) =
-      yields (claimBy way (rangesOf c.own c.parent c.length (part_of b c.ranges.at c.ranges.len)) r) (nextRow c)
-  rowStep way c PastReg = On (childNext way c c.next)
-  rowStep way c NoReg = On (childNext way c c.next)
+  abbrev pub row_step : Way → Cursor → RegRow → Step
+  row_step way c (RegAt r) =
+      yields (claim_by way (ranges_of c.own c.parent c.length (part_of b c.ranges.at c.ranges.len)) r) (next_row c)
+  row_step way c PastReg = On (child_next way c c.next)
+  row_step way c NoReg = On (child_next way c c.next)
 
-  unfoldable pub childStep : Way → Cursor → Step
-  childStep way c = rowStep way c (regRow (reg_of c.own c.length (part_of b c.value.at c.value.len)) c.row)
+  unfoldable pub child_step : Way → Cursor → Step
+  child_step way c = row_step way c (reg_row (reg_of c.own c.length (part_of b c.value.at c.value.len)) c.row)
 
 -- "0x08000000 size 0x08000000 and 0x10000000 size 0x30000000"
-unfoldable pub virtStep : Cursor → Step
-virtStep c =
+unfoldable pub virt_step : Cursor → Step
+virt_step c =
     cond (eqb c.row 0)
-    (Claims (claimed (claim 0x08000000 0x08000000 (number_of Device))) (nextRow c))
+    (Claims (claimed (claim 0x08000000 0x08000000 (number_of Device))) (next_row c))
     (Claims (claimed (claim 0x10000000 0x30000000 (number_of Device))) (start_at Over))
 
 module _ (b n block : List ℕ) (arm : Bool) where
-  abbrev pub stageStep : Stage → Cursor → Step
-  stageStep Entries c = entryStep b n (entry_of block c.row) c
-  stageStep (Children way) c = childStep b n arm way c
-  stageStep Virt c = virtStep c
-  stageStep Console c = yields (uartClaim (uartOf (rootAt b n))) (enterAt b n Controllers)
-  stageStep Over c = End
+  abbrev pub stage_step : Stage → Cursor → Step
+  stage_step Entries c = entry_step b n (entry_of block c.row) c
+  stage_step (Children way) c = child_step b n arm way c
+  stage_step Virt c = virt_step c
+  stage_step Console c = yields (uart_claim (uart_of (root_at b n))) (enter_at b n Controllers)
+  stage_step Over c = End
 
   unfoldable pub step_of : Cursor → Step
-  step_of c = stageStep c.stage c
+  step_of c = stage_step c.stage c

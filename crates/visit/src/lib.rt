@@ -1,15 +1,15 @@
 // A tree's claims, one after the other: the visitors of the kernel's src/dtb/mod.rs as a cursor and a step. The map is not known here.
 ghost use Rattle.std.specs.Prelude.{◌≡◌};
-ghost use Rattle.cells.specs.Rows.{rangesOf};
+ghost use Rattle.cells.specs.Rows.{ranges_of};
 ghost use Rattle.words.specs.Bytes.{part_of};
 ghost use Rattle.reservations.specs.Reservations.{entry_of};
-ghost use Rattle.nodes.specs.Nav.{propAt};
-ghost use Rattle.subtree.specs.Names.{rangesName};
-ghost use Rattle.subtree.specs.Subtree.{rootAt};
-ghost use Rattle.stdout.specs.Stdout.{uartOf};
+ghost use Rattle.nodes.specs.Nav.{prop_at};
+ghost use Rattle.subtree.specs.Names.{ranges_name};
+ghost use Rattle.subtree.specs.Subtree.{root_at};
+ghost use Rattle.stdout.specs.Stdout.{uart_of};
 ghost use Rattle.claims.specs.declared.Way.TheVariants.{Reserve, Soc, Controllers};
-ghost use Rattle.claims.specs.Claims.{claimBy, uartClaim};
-ghost use Rattle.visit.specs.Steps.{start_at, with_row, partBy, parentAt, rootCells, rangesBy, enterAt, yields, entryStep, after_at, childNext, childStep, virtStep, step_of};
+ghost use Rattle.claims.specs.Claims.{claim_by, uart_claim};
+ghost use Rattle.visit.specs.Steps.{start_at, with_row, part_by, parent_at, root_cells, ranges_by, enter_at, yields, entry_step, after_at, child_next, child_step, virt_step, step_of};
 ghost use Rattle.visit.specs.declared.Stage.TheVariants.{Entries};
 
 use cells::{CellCount, RegRow, Region};
@@ -84,7 +84,7 @@ pub fn first_claim() -> Cursor
 }
 
 fn part_by(value: Value) -> Block
-    ensures { result ≡ partBy value }
+    ensures { result ≡ part_by value }
 {
     match value {
         Value::Here(at, len) => Block { at, len },
@@ -94,7 +94,7 @@ fn part_by(value: Value) -> Block
 
 // /reserved-memory, where its children count.
 fn reserved_parent<'a>(structure: &'a [u8], strings: &'a [u8]) -> Found
-    ensures { result ≡ parentAt structure.now strings.now Reserve }
+    ensures { result ≡ parent_at structure.now strings.now Reserve }
 {
     let Found::At(root) = nodes::path_offset(structure, strings, b"/") else {
         return Found::Nothing;
@@ -110,7 +110,7 @@ fn reserved_parent<'a>(structure: &'a [u8], strings: &'a [u8]) -> Found
 
 // /soc, where it has `ranges`.
 fn soc_parent<'a>(structure: &'a [u8], strings: &'a [u8]) -> Found
-    ensures { result ≡ parentAt structure.now strings.now Soc }
+    ensures { result ≡ parent_at structure.now strings.now Soc }
 {
     let Found::At(root) = nodes::path_offset(structure, strings, b"/") else {
         return Found::Nothing;
@@ -126,7 +126,7 @@ fn soc_parent<'a>(structure: &'a [u8], strings: &'a [u8]) -> Found
 
 // The node whose children claim by a rule, where they do.
 fn parent_of<'a>(structure: &'a [u8], strings: &'a [u8], way: Way) -> Found
-    ensures { result ≡ parentAt structure.now strings.now way }
+    ensures { result ≡ parent_at structure.now strings.now way }
 {
     match way {
         Way::Reserve => reserved_parent(structure, strings),
@@ -136,7 +136,7 @@ fn parent_of<'a>(structure: &'a [u8], strings: &'a [u8], way: Way) -> Found
 }
 
 fn root_cells<'a>(structure: &'a [u8], strings: &'a [u8]) -> CellCount
-    ensures { result ≡ rootCells structure.now strings.now }
+    ensures { result ≡ root_cells structure.now strings.now }
 {
     match nodes::path_offset(structure, strings, b"/") {
         Found::At(root) => nodes::address_cells(structure, strings, root),
@@ -146,7 +146,7 @@ fn root_cells<'a>(structure: &'a [u8], strings: &'a [u8]) -> CellCount
 
 // The `ranges` that a child's regions go through: /soc's alone.
 fn ranges_of<'a>(structure: &'a [u8], strings: &'a [u8], way: Way, node: usize) -> Block
-    ensures { result ≡ rangesBy way (propAt structure.now strings.now node rangesName) }
+    ensures { result ≡ ranges_by way (prop_at structure.now strings.now node ranges_name) }
 {
     match way {
         Way::Reserve => Block { at: 0, len: 0 },
@@ -157,7 +157,7 @@ fn ranges_of<'a>(structure: &'a [u8], strings: &'a [u8], way: Way, node: usize) 
 
 // Before the first child that claims by a rule. All that its siblings share is read here, once.
 fn enter<'a>(structure: &'a [u8], strings: &'a [u8], way: Way) -> Cursor
-    ensures { result ≡ enterAt structure.now strings.now way }
+    ensures { result ≡ enter_at structure.now strings.now way }
 {
     let Found::At(node) = parent_of(structure, strings, way) else {
         return start_at(Stage::Children(way));
@@ -203,7 +203,7 @@ fn visit_fdt_memory_reservations<'a>(
     block: &'a [u8],
     cursor: Cursor,
 ) -> Step
-    ensures { result ≡ entryStep structure.now strings.now (entry_of block.now cursor.row) cursor }
+    ensures { result ≡ entry_step structure.now strings.now (entry_of block.now cursor.row) cursor }
 {
     let row = cursor.row;
     let Reservation::Entry(entry) = reservations::reserved_entry(block, row) else {
@@ -250,7 +250,7 @@ fn next_child<'a>(
     way: Way,
     cursor: Cursor,
 ) -> Cursor
-    ensures { result ≡ childNext structure.now strings.now arm way cursor cursor.next }
+    ensures { result ≡ child_next structure.now strings.now arm way cursor cursor.next }
 {
     let next = cursor.next;
     let Found::At(child) = next else {
@@ -274,7 +274,7 @@ fn next_child<'a>(
 
 // A region of a child, where it lies somewhere.
 fn region_step(structure: &[u8], way: Way, cursor: Cursor, region: Region, next: Cursor) -> Step
-    ensures { result ≡ yields (claimBy way (rangesOf cursor.own cursor.parent cursor.length (part_of structure.now cursor.ranges.at cursor.ranges.len)) region) next }
+    ensures { result ≡ yields (claim_by way (ranges_of cursor.own cursor.parent cursor.length (part_of structure.now cursor.ranges.at cursor.ranges.len)) region) next }
 {
     let own = cursor.own;
     let parent = cursor.parent;
@@ -310,7 +310,7 @@ fn child_step<'a>(
     way: Way,
     cursor: Cursor,
 ) -> Step
-    ensures { result ≡ childStep structure.now strings.now arm way cursor }
+    ensures { result ≡ child_step structure.now strings.now arm way cursor }
 {
     let value = cursor.value;
     let row = cursor.row;
@@ -328,7 +328,7 @@ fn child_step<'a>(
 
 // The two ranges of a virtual board.
 fn virt_step(cursor: Cursor) -> Step
-    ensures { result ≡ virtStep cursor }
+    ensures { result ≡ virt_step cursor }
 {
     if cursor.row == 0 {
         return Step::Claims(
@@ -352,7 +352,7 @@ fn virt_step(cursor: Cursor) -> Step
 
 // The console's registers, and then the root's children.
 fn console_step<'a>(structure: &'a [u8], strings: &'a [u8]) -> Step
-    ensures { result ≡ yields (uartClaim (uartOf (rootAt structure.now strings.now))) (enterAt structure.now strings.now Controllers) }
+    ensures { result ≡ yields (uart_claim (uart_of (root_at structure.now strings.now))) (enter_at structure.now strings.now Controllers) }
 {
     let next = enter(structure, strings, Way::Controllers);
     match stdout::diag_uart_range(structure, strings) {

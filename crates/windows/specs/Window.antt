@@ -12,8 +12,8 @@ unfoldable pub reach : ℕ → ℕ
 reach size = max size 1 - 1
 
 -- "last is address + max(size,1) - 1, capped"
-unfoldable pub lastByte : ℕ → ℕ → ℕ
-lastByte address size = min (address + reach size) (2 ^ 64 - 1)
+unfoldable pub last_byte : ℕ → ℕ → ℕ
+last_byte address size = min (address + reach size) (2 ^ 64 - 1)
 
 -- the address `offset` bytes on from the parent's, where the sum of these and of what has to follow fits
 unfoldable pub landing : ℕ → ℕ → ℕ → Fit
@@ -21,36 +21,36 @@ landing parent offset last = cond (leb (parent + offset + last) (2 ^ 64 - 1)) (G
 
 -- the soc window takes a range "with child <= address and last - child <= length"; "The parent sum, and that sum plus
 -- max(size,1) - 1, must fit."
-unfoldable pub fitSoc : Range → ℕ → ℕ → Fit
-fitSoc r address size =
-    cond (leb r.child address && leb (lastByte address size - r.child) r.size)
+unfoldable pub fit_soc : Range → ℕ → ℕ → Fit
+fit_soc r address size =
+    cond (leb r.child address && leb (last_byte address size - r.child) r.size)
     (landing r.parent (address - r.child) (reach size))
     Not
 
 -- translation takes a range "with offset = address - child >= 0, offset < length and max(size,1) - 1 < length - offset; it gives
 -- parent + offset, which must be below 2^64"
-unfoldable pub fitBus : Range → ℕ → ℕ → Fit
-fitBus r address size =
+unfoldable pub fit_bus : Range → ℕ → ℕ → Fit
+fit_bus r address size =
     cond (leb r.child address && (ltb (address - r.child) r.size && ltb (reach size) (r.size - (address - r.child))))
     (landing r.parent (address - r.child) 0)
     Not
 
-abbrev pub fitBy : Bool → Range → ℕ → ℕ → Fit
-fitBy true r address size = fitSoc r address size
-fitBy false r address size = fitBus r address size
+abbrev pub fit_by : Bool → Range → ℕ → ℕ → Fit
+fit_by true r address size = fit_soc r address size
+fit_by false r address size = fit_bus r address size
 
-abbrev pub fitOr : Fit → Window → Window
-fitOr (Gives to) w = To to
-fitOr Over w = Nowhere
-fitOr Not w = w
+abbrev pub fit_or : Fit → Window → Window
+fit_or (Gives to) w = To to
+fit_or Over w = Nowhere
+fit_or Not w = w
 
 -- "the first range" that has the region decides
-unfoldable pub firstFit : Bool → List Range → ℕ → ℕ → Window
-firstFit soc [] address size = Nowhere
-firstFit soc (r ∷ l) address size = fitOr (fitBy soc r address size) (firstFit soc l address size)
+unfoldable pub first_fit : Bool → List Range → ℕ → ℕ → Window
+first_fit soc [] address size = Nowhere
+first_fit soc (r ∷ l) address size = fit_or (fit_by soc r address size) (first_fit soc l address size)
 
 -- "empty, unchanged"; an unreadable one is told apart: refusal 8 or none, as the caller's rule says
 unfoldable pub window : Bool → Table Range → ℕ → ℕ → Window
 window soc unreadable address size = Unreadable
 window soc (rows []) address size = To address
-window soc (rows (r ∷ l)) address size = firstFit soc (r ∷ l) address size
+window soc (rows (r ∷ l)) address size = first_fit soc (r ∷ l) address size

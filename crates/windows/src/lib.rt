@@ -1,8 +1,8 @@
 // The two ways that an address goes through the `ranges` of a bus: the soc window, and translation. They differ in the byte at a
 // window's end, and so each has a rule of its own.
 ghost use Rattle.std.specs.Prelude.{◌≡◌, true, false};
-ghost use Rattle.cells.specs.Rows.{rangesOf};
-ghost use Rattle.windows.specs.Window.{reach, lastByte, landing, fitSoc, fitBus, fitBy, window};
+ghost use Rattle.cells.specs.Rows.{ranges_of};
+ghost use Rattle.windows.specs.Window.{reach, last_byte, landing, fit_soc, fit_bus, fit_by, window};
 
 use cells::{CellCount, Range, RangeRow};
 
@@ -48,7 +48,7 @@ fn land(parent: u64, offset: u64, last: u64) -> Fit
 
 // The address of a region's last byte, or the largest address where that lies past it.
 fn last_of(address: u64, size: u64) -> u64
-    ensures { result ≡ lastByte address size }
+    ensures { result ≡ last_byte address size }
 {
     let far = reach_of(size);
     if 0xffff_ffff_ffff_ffff - address < far {
@@ -59,7 +59,7 @@ fn last_of(address: u64, size: u64) -> u64
 
 // The soc window's rule.
 fn fit_soc(range: Range, address: u64, size: u64) -> Fit
-    ensures { result ≡ fitSoc range address size }
+    ensures { result ≡ fit_soc range address size }
 {
     if address < range.child {
         return Fit::Not;
@@ -73,7 +73,7 @@ fn fit_soc(range: Range, address: u64, size: u64) -> Fit
 
 // Translation's rule.
 fn fit_bus(range: Range, address: u64, size: u64) -> Fit
-    ensures { result ≡ fitBus range address size }
+    ensures { result ≡ fit_bus range address size }
 {
     if address < range.child {
         return Fit::Not;
@@ -90,7 +90,7 @@ fn fit_bus(range: Range, address: u64, size: u64) -> Fit
 
 // By the one rule or the other.
 fn fit_by(soc: bool, range: Range, address: u64, size: u64) -> Fit
-    ensures { result ≡ fitBy soc range address size }
+    ensures { result ≡ fit_by soc range address size }
 {
     if soc {
         return fit_soc(range, address, size);
@@ -108,7 +108,7 @@ fn through(
     address: u64,
     size: u64,
 ) -> Window
-    ensures { result ≡ window soc (rangesOf own parent length ranges.now) address size }
+    ensures { result ≡ window soc (ranges_of own parent length ranges.now) address size }
 {
     let mut i: usize = 0;
     loop {
@@ -146,7 +146,7 @@ pub fn get_mmio_address(
     address: u64,
     size: u64,
 ) -> Window
-    ensures { result ≡ window true (rangesOf own parent length ranges.now) address size }
+    ensures { result ≡ window true (ranges_of own parent length ranges.now) address size }
 {
     through(true, ranges, own, parent, length, address, size)
 }
@@ -160,7 +160,7 @@ pub fn translate_bus_address(
     address: u64,
     size: u64,
 ) -> Window
-    ensures { result ≡ window false (rangesOf own parent length ranges.now) address size }
+    ensures { result ≡ window false (ranges_of own parent length ranges.now) address size }
 {
     through(false, ranges, own, parent, length, address, size)
 }

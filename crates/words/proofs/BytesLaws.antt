@@ -10,120 +10,120 @@ use lib.ListN.{length, get_or, take, drop, length-take, length-drop, get_or-eq_d
 use lib.Seq.{get_or-take, get_or-drop, ext_get_or}
 use lib.Dec.{eqb, ltb}
 use borrow.Author.Tests.{eq-eqb, ne_eqb, eqb-true, eqb-false, ltb-true, ltb-false, le-leb, lt-leb}
-use Rattle.words.specs.Bytes.{word, double, byteFrom, firstByte, bytes, part_of, Finds}
+use Rattle.words.specs.Bytes.{word, double, byte_from, first_byte, bytes, part_of, Finds}
 
 -- ── Tests ──
 -- what holds of both answers, each under its outcome of the test, holds of the choice
-pub cond-elim : {A : Type 0} (P : A → Type 0) (b : Bool) (x y : A) → (b ≡ true → P x) → (b ≡ false → P y) → P (cond b x y)
-cond-elim P true x y f g = f refl
-cond-elim P false x y f g = g refl
+pub cond_elim : {A : Type 0} (P : A → Type 0) (b : Bool) (x y : A) → (b ≡ true → P x) → (b ≡ false → P y) → P (cond b x y)
+cond_elim P true x y f g = f refl
+cond_elim P false x y f g = g refl
 
 -- two constructors are never equal: `cc` shows 0 ≡ 1 from it
 pub never : {A : Type 0} → ◌≡◌ {A = ℕ} 0 1 → A
 never z = let w : ⊥ = omega arith in absurd w
 
 -- ── Numbers ──
-pub word-past : (s : List ℕ) (at : ℕ) → length s ≤ at → word s at ≡ 0
+pub word_past : (s : List ℕ) (at : ℕ) → length s ≤ at → word s at ≡ 0
 unfolding word
-word-past s at h =
+word_past s at h =
     rw
     (get_or-eq_default s 0 {n = at} h, get_or-eq_default s 0 {n = at + 1} (omega arith), get_or-eq_default s 0 {n = at + 2} (omega arith), get_or-eq_default s 0 {n = at + 3} (omega arith))
 
-pub double-past : (s : List ℕ) (at : ℕ) → length s ≤ at → double s at ≡ 0
+pub double_past : (s : List ℕ) (at : ℕ) → length s ≤ at → double s at ≡ 0
 unfolding double
-double-past s at h = rw (word-past s at h, word-past s (at + 4) (omega arith))
+double_past s at h = rw (word_past s at h, word_past s (at + 4) (omega arith))
 
 -- ── The first byte x among n bytes ──
 module _ (x : ℕ) (s : List ℕ) where
-  pub from-ge : (n at : ℕ) → at ≤ byteFrom x s n at
-  unfolding byteFrom
-  from-ge zero at = omega arith
-  from-ge (suc n) at =
-      let h = from-ge n (at + 1) in
-      cond-elim (λ (r : ℕ). at ≤ r) (eqb (get_or s at 0) x) _ _ (λ e. omega arith) (λ e. omega arith)
+  pub from_ge : (n at : ℕ) → at ≤ byte_from x s n at
+  unfolding byte_from
+  from_ge zero at = omega arith
+  from_ge (suc n) at =
+      let h = from_ge n (at + 1) in
+      cond_elim (λ (r : ℕ). at ≤ r) (eqb (get_or s at 0) x) _ _ (λ e. omega arith) (λ e. omega arith)
 
-  from_le : (n at : ℕ) → byteFrom x s n at ≤ at + n
-  unfolding byteFrom
+  from_le : (n at : ℕ) → byte_from x s n at ≤ at + n
+  unfolding byte_from
   from_le zero at = omega arith
   from_le (suc n) at =
       let h = from_le n (at + 1) in
-      cond-elim (λ (r : ℕ). r ≤ at + suc n) (eqb (get_or s at 0) x) _ _ (λ e. omega arith) (λ e. omega arith)
+      cond_elim (λ (r : ℕ). r ≤ at + suc n) (eqb (get_or s at 0) x) _ _ (λ e. omega arith) (λ e. omega arith)
 
-  from-before : (n at k : ℕ) → at ≤ k → k < byteFrom x s n at → get_or s k 0 ≡ x → ⊥
-  unfolding byteFrom
-  from-before zero at k l h is = omega arith
-  from-before (suc n) at k l h is =
-      cond-elim (λ (r : ℕ). k < r → ⊥) (eqb (get_or s at 0) x) _ _ (λ e u. omega arith)
-      (λ e u. other (eqb at k) refl e (λ m. from-before n (at + 1) k m u is))
+  from_before : (n at k : ℕ) → at ≤ k → k < byte_from x s n at → get_or s k 0 ≡ x → ⊥
+  unfolding byte_from
+  from_before zero at k l h is = omega arith
+  from_before (suc n) at k l h is =
+      cond_elim (λ (r : ℕ). k < r → ⊥) (eqb (get_or s at 0) x) _ _ (λ e u. omega arith)
+      (λ e u. other (eqb at k) refl e (λ m. from_before n (at + 1) k m u is))
       h
     where
       other : (b : Bool) → eqb at k ≡ b → eqb (get_or s at 0) x ≡ false → (at + 1 ≤ k → ⊥) → ⊥
       other true q e more = let a : at ≡ k = eqb-true _ _ q in eqb-false (get_or s at 0) x e (rw a is)
       other false q e more = let a : at ≡ k → ⊥ = eqb-false _ _ q in more (omega arith)
 
-  from_is : (n at : ℕ) → byteFrom x s n at < at + n → get_or s (byteFrom x s n at) 0 ≡ x
-  unfolding byteFrom
+  from_is : (n at : ℕ) → byte_from x s n at < at + n → get_or s (byte_from x s n at) 0 ≡ x
+  unfolding byte_from
   from_is zero at h = let b : ⊥ = omega arith in absurd b
   from_is (suc n) at h =
-      cond-elim (λ (r : ℕ). r < at + suc n → get_or s r 0 ≡ x) (eqb (get_or s at 0) x) _ _ (λ e u. eqb-true _ _ e)
+      cond_elim (λ (r : ℕ). r < at + suc n → get_or s r 0 ≡ x) (eqb (get_or s at 0) x) _ _ (λ e u. eqb-true _ _ e)
       (λ e u. from_is n (at + 1) (omega arith))
       h
 
 -- ── The first byte x from a place on ──
 module _ (x : ℕ) (s : List ℕ) (at : ℕ) where
-  pub first-stop : at < length s → get_or s at 0 ≡ x → firstByte x s at ≡ at
-  unfolding byteFrom
-  first-stop h e = let q : length s - at ≡ suc (length s - (at + 1)) = omega arith in rw (q, eq-eqb _ _ e)
+  pub first_stop : at < length s → get_or s at 0 ≡ x → first_byte x s at ≡ at
+  unfolding byte_from
+  first_stop h e = let q : length s - at ≡ suc (length s - (at + 1)) = omega arith in rw (q, eq-eqb _ _ e)
 
-  pub first_step : at < length s → (get_or s at 0 ≡ x → ⊥) → firstByte x s at ≡ firstByte x s (at + 1)
-  unfolding byteFrom
+  pub first_step : at < length s → (get_or s at 0 ≡ x → ⊥) → first_byte x s at ≡ first_byte x s (at + 1)
+  unfolding byte_from
   first_step h n = let q : length s - at ≡ suc (length s - (at + 1)) = omega arith in rw (q, ne_eqb _ _ n)
 
-  pub first-none : length s ≤ at → firstByte x s at ≡ at
-  unfolding byteFrom
-  first-none h = let q : length s - at ≡ 0 = omega arith in rw q
+  pub first_none : length s ≤ at → first_byte x s at ≡ at
+  unfolding byte_from
+  first_none h = let q : length s - at ≡ 0 = omega arith in rw q
 
-  pub first-ge : at ≤ firstByte x s at
-  first-ge = from-ge x s (length s - at) at
+  pub first_ge : at ≤ first_byte x s at
+  first_ge = from_ge x s (length s - at) at
 
-  pub first-le : at ≤ length s → firstByte x s at ≤ length s
-  first-le h = omega (arith, from_le x s (length s - at) at)
+  pub first_le : at ≤ length s → first_byte x s at ≤ length s
+  first_le h = omega (arith, from_le x s (length s - at) at)
 
-  pub first-before : (k : ℕ) → at ≤ k → k < firstByte x s at → get_or s k 0 ≡ x → ⊥
-  first-before = from-before x s (length s - at) at
+  pub first_before : (k : ℕ) → at ≤ k → k < first_byte x s at → get_or s k 0 ≡ x → ⊥
+  first_before = from_before x s (length s - at) at
 
-  pub first-is : firstByte x s at < length s → get_or s (firstByte x s at) 0 ≡ x
-  first-is h = from_is x s (length s - at) at (omega (arith, first-ge))
+  pub first_is : first_byte x s at < length s → get_or s (first_byte x s at) 0 ≡ x
+  first_is h = from_is x s (length s - at) at (omega (arith, first_ge))
 
   -- no other place is so
-  pub first-only : (r : ℕ) → at ≤ r → r ≤ length s → ((k : ℕ) → at ≤ k → k < r → get_or s k 0 ≡ x → ⊥) → (r < length s → get_or s r 0 ≡ x) → r ≡ firstByte x s at
-  first-only r g l b f = go (ltb r (firstByte x s at)) refl (ltb (firstByte x s at) r) refl
+  pub first_only : (r : ℕ) → at ≤ r → r ≤ length s → ((k : ℕ) → at ≤ k → k < r → get_or s k 0 ≡ x → ⊥) → (r < length s → get_or s r 0 ≡ x) → r ≡ first_byte x s at
+  first_only r g l b f = go (ltb r (first_byte x s at)) refl (ltb (first_byte x s at) r) refl
     where
-      go : (p : Bool) → ltb r (firstByte x s at) ≡ p → (q : Bool) → ltb (firstByte x s at) r ≡ q → r ≡ firstByte x s at
+      go : (p : Bool) → ltb r (first_byte x s at) ≡ p → (q : Bool) → ltb (first_byte x s at) r ≡ q → r ≡ first_byte x s at
       go true u q v =
-          let h : r < firstByte x s at = ltb-true _ _ u in
-          let m = first-le (omega arith) in
-          absurd (first-before r g h (f (omega arith)))
+          let h : r < first_byte x s at = ltb-true _ _ u in
+          let m = first_le (omega arith) in
+          absurd (first_before r g h (f (omega arith)))
       go false u true v =
-          let h : firstByte x s at < r = ltb-true _ _ v in
-          absurd (b (firstByte x s at) first-ge h (first-is (omega arith)))
+          let h : first_byte x s at < r = ltb-true _ _ v in
+          absurd (b (first_byte x s at) first_ge h (first_is (omega arith)))
       go false u false v =
-          let m : firstByte x s at ≤ r = ltb-false _ _ u in
-          let w : r ≤ firstByte x s at = ltb-false _ _ v in
+          let m : first_byte x s at ≤ r = ltb-false _ _ u in
+          let w : r ≤ first_byte x s at = ltb-false _ _ v in
           omega arith
 
-  pub finds : {r : ℕ} → r ≡ firstByte x s at → Finds x s at r
-  finds e = record { is = e; from = rw e first-ge; upto = λ h. rw e (first-le h) }
+  pub finds : {r : ℕ} → r ≡ first_byte x s at → Finds x s at r
+  finds e = record { is = e; from = rw e first_ge; upto = λ h. rw e (first_le h) }
 
 -- ── Parts ──
-pub bytes-length : (s : List ℕ) (a b : ℕ) → b ≤ length s → length (bytes s a b) ≡ b - a
-bytes-length s a b h = simp (length-take, length-drop) (omega arith)
+pub bytes_length : (s : List ℕ) (a b : ℕ) → b ≤ length s → length (bytes s a b) ≡ b - a
+bytes_length s a b h = simp (length-take, length-drop) (omega arith)
 
-pub bytes-long : (s : List ℕ) (a l : ℕ) → a + l ≤ length s → length (bytes s a (a + l)) ≡ l
-bytes-long s a l h = omega (arith, bytes-length s a (a + l) h)
+pub bytes_long : (s : List ℕ) (a l : ℕ) → a + l ≤ length s → length (bytes s a (a + l)) ≡ l
+bytes_long s a l h = omega (arith, bytes_length s a (a + l) h)
 
-pub bytes-byte : (s : List ℕ) (a b i : ℕ) → i < b - a → get_or (bytes s a b) i 0 ≡ get_or s (a + i) 0
-bytes-byte s a b i h = rw (get_or-take, get_or-drop)
+pub bytes_byte : (s : List ℕ) (a b i : ℕ) → i < b - a → get_or (bytes s a b) i 0 ≡ get_or s (a + i) 0
+bytes_byte s a b i h = rw (get_or-take, get_or-drop)
 
 module _ (s : List ℕ) (at n : ℕ) where
   pub part_none : length s < at + n → part_of s at n ≡ []
@@ -131,42 +131,42 @@ module _ (s : List ℕ) (at n : ℕ) where
   part_none h = rw (lt-leb _ _ h)
 
   module _ (fits : at + n ≤ length s) where
-    pub part-is : part_of s at n ≡ take n (drop at s)
+    pub part_is : part_of s at n ≡ take n (drop at s)
     unfolding part_of
-    part-is = rw (le-leb _ _ fits)
+    part_is = rw (le-leb _ _ fits)
 
     pub part_cut : part_of s at n ≡ bytes s at (at + n)
-    part_cut = let e : n ≡ at + n - at = omega arith in part-is ∙ ap (λ (m : ℕ). take m (drop at s)) e
+    part_cut = let e : n ≡ at + n - at = omega arith in part_is ∙ ap (λ (m : ℕ). take m (drop at s)) e
 
     pub part_length : length (part_of s at n) ≡ n
-    part_length = rw part-is (simp (length-take, length-drop) (omega arith))
+    part_length = rw part_is (simp (length-take, length-drop) (omega arith))
 
-    pub part-byte : (i : ℕ) → i < n → get_or (part_of s at n) i 0 ≡ get_or s (at + i) 0
-    part-byte i h = rw (part-is, get_or-take, get_or-drop)
+    pub part_byte : (i : ℕ) → i < n → get_or (part_of s at n) i 0 ≡ get_or s (at + i) 0
+    part_byte i h = rw (part_is, get_or-take, get_or-drop)
 
-    pub part-word : (i : ℕ) → i + 4 ≤ n → word (part_of s at n) i ≡ word s (at + i)
+    pub part_word : (i : ℕ) → i + 4 ≤ n → word (part_of s at n) i ≡ word s (at + i)
     unfolding word
-    part-word i h = rw (part-byte i (omega arith), b 1 (omega arith), b 2 (omega arith), b 3 (omega arith))
+    part_word i h = rw (part_byte i (omega arith), b 1 (omega arith), b 2 (omega arith), b 3 (omega arith))
       where
         b : (k : ℕ) → k < 4 → get_or (part_of s at n) (i + k) 0 ≡ get_or s (at + i + k) 0
         b k l =
             let e : at + (i + k) ≡ at + i + k = omega arith in
-            part-byte (i + k) (omega arith) ∙ ap (λ (o : ℕ). get_or s o 0) e
+            part_byte (i + k) (omega arith) ∙ ap (λ (o : ℕ). get_or s o 0) e
 
-    pub part-double : (i : ℕ) → i + 8 ≤ n → double (part_of s at n) i ≡ double s (at + i)
+    pub part_double : (i : ℕ) → i + 8 ≤ n → double (part_of s at n) i ≡ double s (at + i)
     unfolding double
-    part-double i h =
+    part_double i h =
         let e : at + (i + 4) ≡ at + i + 4 = omega arith in
-        rw (part-word i (omega arith), part-word (i + 4) (omega arith), e)
+        rw (part_word i (omega arith), part_word (i + 4) (omega arith), e)
 
-    pub part_bytes : (a b : ℕ) → b ≤ n → bytes (part_of s at n) a b ≡ bytes s (at + a) (at + b)
-    part_bytes a b h =
-        let k = bytes-length (part_of s at n) a b (omega (arith, part_length)) in
-        let o = bytes-length s (at + a) (at + b) (omega arith) in
+    pub part_bytes_lem : (a b : ℕ) → b ≤ n → bytes (part_of s at n) a b ≡ bytes s (at + a) (at + b)
+    part_bytes_lem a b h =
+        let k = bytes_length (part_of s at n) a b (omega (arith, part_length)) in
+        let o = bytes_length s (at + a) (at + b) (omega arith) in
         ext_get_or 0 _ _ (omega arith) (λ i l. each i (omega arith))
       where
         each : (i : ℕ) → i < b - a → get_or (bytes (part_of s at n) a b) i 0 ≡ get_or (bytes s (at + a) (at + b)) i 0
         each i u =
             let e : at + (a + i) ≡ at + a + i = omega arith in
-            bytes-byte (part_of s at n) a b i u ∙ part-byte (a + i) (omega arith) ∙ ap (λ (o : ℕ). get_or s o 0) e ∙
-            sym (bytes-byte s (at + a) (at + b) i (omega arith))
+            bytes_byte (part_of s at n) a b i u ∙ part_byte (a + i) (omega arith) ∙ ap (λ (o : ℕ). get_or s o 0) e ∙
+            sym (bytes_byte s (at + a) (at + b) i (omega arith))

@@ -6,17 +6,17 @@ use mathlib.Core.List.{List}
 use lib.ListN.{length, get_or, get_or-eq_default}
 use Rattle.words.specs.Little.{half, quarter, eight}
 
-pub half-past : (s : List ℕ) (at : ℕ) → length s ≤ at → half s at ≡ 0
+pub half_past : (s : List ℕ) (at : ℕ) → length s ≤ at → half s at ≡ 0
 unfolding half
-half-past s at h = rw (get_or-eq_default s 0 {n = at} h, get_or-eq_default s 0 {n = at + 1} (omega arith))
+half_past s at h = rw (get_or-eq_default s 0 {n = at} h, get_or-eq_default s 0 {n = at + 1} (omega arith))
 
-pub quarter-past : (s : List ℕ) (at : ℕ) → length s ≤ at → quarter s at ≡ 0
+pub quarter_past : (s : List ℕ) (at : ℕ) → length s ≤ at → quarter s at ≡ 0
 unfolding quarter
-quarter-past s at h = rw (half-past s at h, half-past s (at + 2) (omega arith))
+quarter_past s at h = rw (half_past s at h, half_past s (at + 2) (omega arith))
 
-pub eight-past : (s : List ℕ) (at : ℕ) → length s ≤ at → eight s at ≡ 0
+pub eight_past : (s : List ℕ) (at : ℕ) → length s ≤ at → eight s at ≡ 0
 unfolding eight
-eight-past s at h = rw (quarter-past s at h, quarter-past s (at + 4) (omega arith))
+eight_past s at h = rw (quarter_past s at h, quarter_past s (at + 4) (omega arith))
 
 -- byte by byte, the lowest innermost last: as the eight bytes are read at once
 pub eight_is : (s : List ℕ) (at : ℕ) → eight s at

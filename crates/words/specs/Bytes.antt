@@ -10,17 +10,17 @@ unfoldable pub double : List ℕ → ℕ → ℕ
 double s at = word s at * 2 ^ 32 + word s (at + 4)
 
 -- the first byte x among the n bytes from a place on, or the place after them where there is none
-unfoldable pub byteFrom : ℕ → List ℕ → ℕ → ℕ → ℕ
-byteFrom x s zero at = at
-byteFrom x s (suc n) at = cond (eqb (get_or s at 0) x) at (byteFrom x s n (at + 1))
+unfoldable pub byte_from : ℕ → List ℕ → ℕ → ℕ → ℕ
+byte_from x s zero at = at
+byte_from x s (suc n) at = cond (eqb (get_or s at 0) x) at (byte_from x s n (at + 1))
 
 -- the first byte x from a place on, or the end of the list where there is none
-abbrev pub firstByte : ℕ → List ℕ → ℕ → ℕ
-firstByte x s at = byteFrom x s (length s - at) at
+abbrev pub first_byte : ℕ → List ℕ → ℕ → ℕ
+first_byte x s at = byte_from x s (length s - at) at
 
 -- where a string that begins at a place ends: at its first zero byte, or at the end of the list where there is none
-abbrev pub stringEnd : List ℕ → ℕ → ℕ
-stringEnd s at = firstByte 0 s at
+abbrev pub string_end : List ℕ → ℕ → ℕ
+string_end s at = first_byte 0 s at
 
 -- the least multiple of 4 that is not below x
 abbrev pub align4 : ℕ → ℕ
@@ -44,6 +44,6 @@ pub record Double (s : List ℕ) (at r : ℕ) : Type 0 where
   pub small : r < 2 ^ 64
 
 pub record Finds (x : ℕ) (s : List ℕ) (at r : ℕ) : Type 0 where
-  pub is : r ≡ firstByte x s at
+  pub is : r ≡ first_byte x s at
   pub from : at ≤ r
   pub upto : at ≤ length s → r ≤ length s

@@ -18,8 +18,8 @@ unfoldable pub whole : List ℕ → ℕ → CallRead → Read
 whole s q c = cond (leb q (length s)) (record { next = q; call = c }) nothing
 
 -- by the letter k at p. A length that the input does not have whole counts missing bytes as 0, and the call then ends past the input
-unfoldable pub byLetter : List ℕ → ℕ → ℕ → Read
-byLetter s p k =
+unfoldable pub by_letter : List ℕ → ℕ → ℕ → Read
+by_letter s p k =
     -- R
     cond (eqb k 82) (whole s (p + 17) (Reservation (eight s (p + 1)) (eight s (p + 9))))
     -- B
@@ -31,8 +31,8 @@ byLetter s p k =
     (cond (eqb k 69) (whole s (p + 1) End) (cond (eqb k 70) (whole s (p + 1) Finish) nothing))))
 
 -- THE CALL AT p
-unfoldable pub readAt : List ℕ → ℕ → Read
-readAt s p = cond (leb (length s) p) nothing (byLetter s p (get_or s p 0))
+unfoldable pub read_at : List ℕ → ℕ → Read
+read_at s p = cond (leb (length s) p) nothing (by_letter s p (get_or s p 0))
 
 -- ── All calls ──
 infixr 20 ◌then◌
@@ -52,10 +52,10 @@ behind s End cs = write ends then cs
 behind s Finish cs = finish then cs
 
 -- the calls from p on, in at most f of them: each takes a byte at least
-unfoldable pub callsFrom : ℕ → List ℕ → ℕ → Calls
-callsFrom zero s p = over
-callsFrom (suc f) s p = cond (ltb p (length s)) (behind s (readAt s p).call (callsFrom f s (readAt s p).next)) over
+unfoldable pub calls_from : ℕ → List ℕ → ℕ → Calls
+calls_from zero s p = over
+calls_from (suc f) s p = cond (ltb p (length s)) (behind s (read_at s p).call (calls_from f s (read_at s p).next)) over
 
 -- THE CALLS of an input
-abbrev pub callsIn : List ℕ → Calls
-callsIn s = callsFrom (length s) s 0
+abbrev pub calls_in : List ℕ → Calls
+calls_in s = calls_from (length s) s 0

@@ -1,8 +1,8 @@
 // Calls of the writer in bytes, one after the other, made up to the first that is refused: request L1 of document 02, its program. A call is
 // a letter and what belongs to it, little-endian.
 ghost use Rattle.std.specs.Prelude.{◌≡◌, cond};
-ghost use Rattle.write_run.specs.Input.{whole, readAt};
-ghost use Rattle.write_run.specs.Run.{stopBy, step_of, stepped, made_of, ran, ranOf};
+ghost use Rattle.write_run.specs.Input.{whole, read_at};
+ghost use Rattle.write_run.specs.Run.{stop_by, step_of, stepped, made_of, ran, ran_of};
 
 use writer::{WriteAnswer, Writer, Wrote};
 
@@ -67,7 +67,7 @@ fn whole_call(calls: &[u8], next: usize, call: CallRead) -> Read
 
 // The call at a place.
 pub fn read_call(calls: &[u8], at: usize) -> Read
-    ensures { result ≡ readAt calls.now at }
+    ensures { result ≡ read_at calls.now at }
 {
     if calls.len() <= at {
         return Read {
@@ -105,7 +105,7 @@ pub fn read_call(calls: &[u8], at: usize) -> Read
 
 // Whether the calls go on after an answer.
 fn stop_by(answer: WriteAnswer) -> Stop
-    ensures { result ≡ stopBy answer }
+    ensures { result ≡ stop_by answer }
 {
     match answer {
         WriteAnswer::Done => Stop::Goes,
@@ -173,7 +173,7 @@ fn end_of(done: bool) -> Stop
 // Makes the calls of an input one after the other, from a writer that has written nothing, up to the first that is refused, to where no
 // call stands, or to the end.
 pub fn write_calls(calls: &[u8], out: &mut [u8]) -> WriteRun
-    ensures { ran result out.new ≡ ranOf calls.now out.old }
+    ensures { ran result out.new ≡ ran_of calls.now out.old }
 {
     let mut w = writer::start();
     let mut size: usize = 0;

@@ -8,21 +8,21 @@ use lib.ListN.{length}
 use lib.Dec.{leb, ltb, eqb}
 use mathlib.Core.Logic.{◌⊎◌, inl, inr}
 use borrow.Author.Tests.{leb-true, leb-false, ltb-false, eqb-true, eqb-false, eq-eqb, ne_eqb, not-true, not-false}
-use Rattle.words.specs.Bytes.{stringEnd}
+use Rattle.words.specs.Bytes.{string_end}
 use Rattle.words.proofs.BytesLaws.{never}
-use Rattle.flattened.specs.Parts.{Part, begins, property, ends, partSize, nameSize}
+use Rattle.flattened.specs.Parts.{Part, begins, property, ends, part_size, name_size}
 use Rattle.writer.specs.declared.Writer.{Writer}
 use Rattle.writer.specs.declared.WriteAnswer.{WriteAnswer}
 use Rattle.writer.specs.declared.WriteAnswer.TheVariants.{Done, OutOfTurn, OverLimit, NoRoom}
-use Rattle.writer.specs.Writer.{Call, reserve, write, finish, writeNumber, finalSize, roomAnswer, judged, in_turn, inLimits, after, answer_of}
+use Rattle.writer.specs.Writer.{Call, reserve, write, finish, write_number, final_size, room_answer, judged, in_turn, in_limits, after, answer_of}
 use Rattle.writer.specs.Calls.{part_at}
 
 -- 0 is Done's number alone
-pub done-is : (a : WriteAnswer) → writeNumber a ≡ 0 → a ≡ Done
-done-is Done h = refl
-done-is OutOfTurn h = absurd (omega arith)
-done-is OverLimit h = absurd (omega arith)
-done-is NoRoom h = absurd (omega arith)
+pub done_is : (a : WriteAnswer) → write_number a ≡ 0 → a ≡ Done
+done_is Done h = refl
+done_is OutOfTurn h = absurd (omega arith)
+done_is OverLimit h = absurd (omega arith)
+done_is NoRoom h = absurd (omega arith)
 
 pub record Passed (turn within : Bool) (size room : ℕ) : Type 0 where
   pub turned : turn ≡ true
@@ -30,9 +30,9 @@ pub record Passed (turn within : Bool) (size room : ℕ) : Type 0 where
   pub small : size ≤ 1048576
   pub fits : size ≤ room
 
-room-passed : (size room : ℕ) → roomAnswer size room ≡ Done → (size ≤ 1048576) × (size ≤ room)
-unfolding roomAnswer
-room-passed size room h = go (leb size 1048576) refl (leb size room) refl h
+room_passed : (size room : ℕ) → room_answer size room ≡ Done → (size ≤ 1048576) × (size ≤ room)
+unfolding room_answer
+room_passed size room h = go (leb size 1048576) refl (leb size room) refl h
   where
     go : (a : Bool) → leb size 1048576 ≡ a → (b : Bool) → leb size room ≡ b → cond a (cond b Done NoRoom) OverLimit ≡ Done → (size ≤ 1048576) × (size ≤ room)
     go true p true q h = (leb-true _ _ p, leb-true _ _ q)
@@ -40,39 +40,39 @@ room-passed size room h = go (leb size 1048576) refl (leb size room) refl h
     go false p b q h = never (cc)
 
 passed : (turn within : Bool) (size room : ℕ) → judged turn within size room ≡ Done → Passed turn within size room
-passed true true size room h = let r = room-passed size room h in record { turned = refl; limits = refl; small = r.0; fits = r.1 }
+passed true true size room h = let r = room_passed size room h in record { turned = refl; limits = refl; small = r.0; fits = r.1 }
 passed true false size room h = never (cc)
 passed false within size room h = never (cc)
 
 -- a call that is done was in turn, within the limits, and its blob fits
-pub call-passed : (w : Writer) (c : Call) (room : ℕ) → answer_of w c room ≡ Done → Passed (in_turn w c) (inLimits w c) (finalSize (after w c)) room
+pub call_passed : (w : Writer) (c : Call) (room : ℕ) → answer_of w c room ≡ Done → Passed (in_turn w c) (in_limits w c) (final_size (after w c)) room
 unfolding answer_of
-call-passed w c room h = passed (in_turn w c) (inLimits w c) (finalSize (after w c)) room h
+call_passed w c room h = passed (in_turn w c) (in_limits w c) (final_size (after w c)) room h
 
-pub part-space : (w : Writer) (x : Part) → part_at w + partSize x + 4 + (w.strings + nameSize x) ≤ finalSize (after w (write x))
-unfolding finalSize after partSize nameSize
-part-space w (begins name) = omega arith
-part-space w (property name value) = omega arith
-part-space w ends = omega arith
+pub part_space : (w : Writer) (x : Part) → part_at w + part_size x + 4 + (w.strings + name_size x) ≤ final_size (after w (write x))
+unfolding final_size after part_size name_size
+part_space w (begins name) = omega arith
+part_space w (property name value) = omega arith
+part_space w ends = omega arith
 
 both : (x y : Bool) → (x && y) ≡ true → (x ≡ true) × (y ≡ true)
 both true y h = (refl, h)
 both false y h = never (cc)
 
-pub begin-limits : (w : Writer) (name : List ℕ) → inLimits w (write (begins name)) ≡ true → (w.depth < 32) × (w.nodes < 4096)
-unfolding inLimits
-begin-limits w name h =
+pub begin_limits : (w : Writer) (name : List ℕ) → in_limits w (write (begins name)) ≡ true → (w.depth < 32) × (w.nodes < 4096)
+unfolding in_limits
+begin_limits w name h =
     let b = both (not (leb 32 w.depth)) _ h in
     (leb-false _ _ (not-true _ b.0), leb-false _ _ (not-true _ b.1))
 
 -- ── What a call that is done asks of the buffer ──
 -- from what the code has at hand: the answer, its number, and that this is 0
-pub answered : (w : Writer) (c : Call) (room : ℕ) {a : WriteAnswer} {k : ℕ} → a ≡ answer_of w c room → k ≡ writeNumber a → k ≡ 0 → answer_of w c room ≡ Done
-answered w c room {a} is told zero = sym is ∙ done-is a (sym told ∙ zero)
+pub answered : (w : Writer) (c : Call) (room : ℕ) {a : WriteAnswer} {k : ℕ} → a ≡ answer_of w c room → k ≡ write_number a → k ≡ 0 → answer_of w c room ≡ Done
+answered w c room {a} is told zero = sym is ∙ done_is a (sym told ∙ zero)
 
 pub record Room (w : Writer) (x : Part) (room : ℕ) : Type 0 where
-  pub fits : part_at w + partSize x + 4 + (w.strings + nameSize x) ≤ room
-  pub small : part_at w + partSize x + 4 + (w.strings + nameSize x) ≤ 1048576
+  pub fits : part_at w + part_size x + 4 + (w.strings + name_size x) ≤ room
+  pub small : part_at w + part_size x + 4 + (w.strings + name_size x) ≤ 1048576
 
 pub record Entered (w : Writer) (room : ℕ) : Type 0 where
   pub fits : 40 + 16 * w.reserved + 16 ≤ room
@@ -82,47 +82,47 @@ pub record Ended (w : Writer) (room : ℕ) : Type 0 where
   pub fits : part_at w + 4 + w.strings ≤ room
   pub small : part_at w + 4 + w.strings ≤ 1048576
 
-entry-space : (w : Writer) (address size : ℕ) → 40 + 16 * w.reserved + 16 ≤ finalSize (after w (reserve address size))
-unfolding finalSize after
-entry-space w address size = omega arith
+entry_space : (w : Writer) (address size : ℕ) → 40 + 16 * w.reserved + 16 ≤ final_size (after w (reserve address size))
+unfolding final_size after
+entry_space w address size = omega arith
 
-end-space : (w : Writer) → part_at w + 4 + w.strings ≤ finalSize (after w finish)
-unfolding finalSize after
-end-space w = omega arith
+end_space : (w : Writer) → part_at w + 4 + w.strings ≤ final_size (after w finish)
+unfolding final_size after
+end_space w = omega arith
 
-module _ (w : Writer) (room : ℕ) {a : WriteAnswer} {k : ℕ} (told : k ≡ writeNumber a) (zero : k ≡ 0) where
+module _ (w : Writer) (room : ℕ) {a : WriteAnswer} {k : ℕ} (told : k ≡ write_number a) (zero : k ≡ 0) where
   pub part_room : (x : Part) → a ≡ answer_of w (write x) room → Room w x room
   part_room x is =
-      let p = call-passed w (write x) room (answered w (write x) room is told zero) in
-      let s = part-space w x in
+      let p = call_passed w (write x) room (answered w (write x) room is told zero) in
+      let s = part_space w x in
       record { fits = omega arith; small = omega arith }
 
-  pub begin-few : (name : List ℕ) → a ≡ answer_of w (write (begins name)) room → (w.depth < 32) × (w.nodes < 4096)
-  begin-few name is = begin-limits w name (call-passed w (write (begins name)) room (answered w (write (begins name)) room is told zero)).limits
+  pub begin_few : (name : List ℕ) → a ≡ answer_of w (write (begins name)) room → (w.depth < 32) × (w.nodes < 4096)
+  begin_few name is = begin_limits w name (call_passed w (write (begins name)) room (answered w (write (begins name)) room is told zero)).limits
 
-  pub entry-room : (address size : ℕ) → a ≡ answer_of w (reserve address size) room → Entered w room
-  entry-room address size is =
-      let p = call-passed w (reserve address size) room (answered w (reserve address size) room is told zero) in
-      let s = entry-space w address size in
+  pub entry_room : (address size : ℕ) → a ≡ answer_of w (reserve address size) room → Entered w room
+  entry_room address size is =
+      let p = call_passed w (reserve address size) room (answered w (reserve address size) room is told zero) in
+      let s = entry_space w address size in
       record { fits = omega arith; small = omega arith }
 
-  pub finish-room : a ≡ answer_of w finish room → Ended w room
-  finish-room is =
-      let p = call-passed w finish room (answered w finish room is told zero) in
-      let s = end-space w in
+  pub finish_room : a ≡ answer_of w finish room → Ended w room
+  finish_room is =
+      let p = call_passed w finish room (answered w finish room is told zero) in
+      let s = end_space w in
       record { fits = omega arith; small = omega arith }
 
 -- ── Whose turn it was ──
 pub record BeginTurn (w : Writer) (name : List ℕ) : Type 0 where
   pub going : w.done ≡ false
-  pub clean : length name ≤ stringEnd name 0
+  pub clean : length name ≤ string_end name 0
   pub which : ((w.nodes ≡ 0) × (w.depth ≡ 0) × (length name ≡ 0)) ⊎ ((w.nodes ≡ 0 → ⊥) × (w.depth ≡ 0 → ⊥))
 
-pub begin-turn : (w : Writer) (name : List ℕ) → in_turn w (write (begins name)) ≡ true → BeginTurn w name
+pub begin_turn : (w : Writer) (name : List ℕ) → in_turn w (write (begins name)) ≡ true → BeginTurn w name
 unfolding in_turn
-begin-turn w name h =
+begin_turn w name h =
     let a = both (not w.done) _ h in
-    let b = both (not (ltb (stringEnd name 0) (length name))) _ a.1 in
+    let b = both (not (ltb (string_end name 0) (length name))) _ a.1 in
     record { going = not-true _ a.0; clean = ltb-false _ _ (not-true _ b.0); which = go (eqb w.nodes 0) refl b.1 }
   where
     go : (t : Bool) → eqb w.nodes 0 ≡ t → cond t (eqb w.depth 0 && eqb (length name) 0) (not (eqb w.depth 0)) ≡ true
@@ -133,11 +133,11 @@ begin-turn w name h =
 pub record PropertyTurn (w : Writer) (name : List ℕ) : Type 0 where
   pub going : w.done ≡ false
   pub turn : w.props ≡ true
-  pub clean : length name ≤ stringEnd name 0
+  pub clean : length name ≤ string_end name 0
 
-pub property-turn : (w : Writer) (name value : List ℕ) → in_turn w (write (property name value)) ≡ true → PropertyTurn w name
+pub property_turn : (w : Writer) (name value : List ℕ) → in_turn w (write (property name value)) ≡ true → PropertyTurn w name
 unfolding in_turn
-property-turn w name value h =
+property_turn w name value h =
     let a = both (not w.done) _ h in
     let b = both w.props _ a.1 in
     record { going = not-true _ a.0; turn = b.0; clean = ltb-false _ _ (not-true _ b.1) }
@@ -147,9 +147,9 @@ pub record EndTurn (w : Writer) : Type 0 where
   pub rooted : w.nodes ≡ 0 → ⊥
   pub inside : w.depth ≡ 0 → ⊥
 
-pub end-turn : (w : Writer) → in_turn w (write ends) ≡ true → EndTurn w
+pub end_turn : (w : Writer) → in_turn w (write ends) ≡ true → EndTurn w
 unfolding in_turn
-end-turn w h =
+end_turn w h =
     let a = both (not w.done) _ h in
     let b = both (not (eqb w.nodes 0)) _ a.1 in
     record { going = not-true _ a.0; rooted = eqb-false _ _ (not-true _ b.0); inside = eqb-false _ _ (not-true _ b.1) }
@@ -159,9 +159,9 @@ pub record ReserveTurn (w : Writer) (address size : ℕ) : Type 0 where
   pub bare : w.nodes ≡ 0
   pub some : address ≡ 0 → size ≡ 0 → ⊥
 
-pub reserve-turn : (w : Writer) (address size : ℕ) → in_turn w (reserve address size) ≡ true → ReserveTurn w address size
+pub reserve_turn : (w : Writer) (address size : ℕ) → in_turn w (reserve address size) ≡ true → ReserveTurn w address size
 unfolding in_turn
-reserve-turn w address size h =
+reserve_turn w address size h =
     let a = both (not w.done) _ h in
     let b = both (eqb w.nodes 0) _ a.1 in
     record { going = not-true _ a.0; bare = eqb-true _ _ b.0; some = some_of b.1 }
@@ -174,22 +174,22 @@ pub record FinishTurn (w : Writer) : Type 0 where
   pub rooted : w.nodes ≡ 0 → ⊥
   pub outside : w.depth ≡ 0
 
-pub finish-turn : (w : Writer) → in_turn w finish ≡ true → FinishTurn w
+pub finish_turn : (w : Writer) → in_turn w finish ≡ true → FinishTurn w
 unfolding in_turn
-finish-turn w h =
+finish_turn w h =
     let a = both (not w.done) _ h in
     let b = both (not (eqb w.nodes 0)) _ a.1 in
     record { going = not-true _ a.0; rooted = eqb-false _ _ (not-true _ b.0); outside = eqb-true _ _ b.1 }
 
 -- ── The same from what the code has at hand ──
-module _ (w : Writer) (room : ℕ) {a : WriteAnswer} {k : ℕ} (told : k ≡ writeNumber a) (zero : k ≡ 0) where
-  pub end-inside : a ≡ answer_of w (write ends) room → w.depth ≡ 0 → ⊥
-  end-inside is = (end-turn w (call-passed w (write ends) room (answered w (write ends) room is told zero)).turned).inside
+module _ (w : Writer) (room : ℕ) {a : WriteAnswer} {k : ℕ} (told : k ≡ write_number a) (zero : k ≡ 0) where
+  pub end_inside : a ≡ answer_of w (write ends) room → w.depth ≡ 0 → ⊥
+  end_inside is = (end_turn w (call_passed w (write ends) room (answered w (write ends) room is told zero)).turned).inside
 
   -- at the end no node is open, and one has begun: the blob is as long as what stands
-  pub finish-size : a ≡ answer_of w finish room → part_at w + 4 + w.strings ≡ finalSize w
-  unfolding finalSize
-  finish-size is =
-      let t = finish-turn w (call-passed w finish room (answered w finish room is told zero)).turned in
+  pub finish_size : a ≡ answer_of w finish room → part_at w + 4 + w.strings ≡ final_size w
+  unfolding final_size
+  finish_size is =
+      let t = finish_turn w (call_passed w finish room (answered w finish room is told zero)).turned in
       let d = t.outside in
       rw (ne_eqb _ _ t.rooted) (omega arith)

@@ -9,79 +9,79 @@ use lib.Seq.{paste, paste-zero, length-paste}
 use lib.Dec.{eqb}
 use borrow.Author.Tests.{eq-eqb, ne_eqb}
 use Rattle.pen.specs.Numbers.{bytes4, bytes8, padding}
-use Rattle.flattened.specs.Parts.{Part, begins, property, ends, partSize, nameSize, partBytes, nameBytes}
+use Rattle.flattened.specs.Parts.{Part, begins, property, ends, part_size, name_size, part_bytes, name_bytes}
 use Rattle.flattened.specs.Blob.{header}
 use Rattle.flattened.proofs.PartLaws.{part_length}
-use Rattle.flattened.proofs.HeaderLaws.{header-length}
-use Rattle.pen.proofs.LengthLaws.{bytes4-length}
+use Rattle.flattened.proofs.HeaderLaws.{header_length}
+use Rattle.pen.proofs.LengthLaws.{bytes4_length}
 use Rattle.pen.specs.Writing.{Writes, Put}
 use Rattle.pen.proofs.WritingLaws.{kept}
-use Rattle.writer.proofs.Accepting.{Ended, answered, finish-size}
+use Rattle.writer.proofs.Accepting.{Ended, answered, finish_size}
 use Rattle.writer.specs.declared.Writer.{Writer}
 use Rattle.writer.specs.declared.WriteAnswer.{WriteAnswer}
 use Rattle.writer.specs.declared.WriteAnswer.TheVariants.{Done, OutOfTurn, OverLimit, NoRoom}
-use Rattle.writer.specs.Writer.{Call, finish, onDone, writeNumber, after, answer_of}
-use Rattle.writer.specs.Calls.{laid, part_at, end_at, partLaid, reservationLaid, turned, blocksLaid, blobLaid, laidBy, told, Outcome, taken, unchanged, outcome}
+use Rattle.writer.specs.Writer.{Call, finish, on_done, write_number, after, answer_of}
+use Rattle.writer.specs.Calls.{laid, part_at, end_at, part_laid, reservation_laid, turned, blocks_laid, blob_laid, laid_by, told, Outcome, taken, unchanged, outcome}
 
 -- ── The bytes of a part ──
-pub begin-bytes : (name : List ℕ) → bytes4 1 ++ (name ++ replicate ((length name + 4) / 4 * 4 - length name) 0) ≡ partBytes 0 (begins name)
-unfolding partBytes padding
-begin-bytes name =
+pub begin_bytes : (name : List ℕ) → bytes4 1 ++ (name ++ replicate ((length name + 4) / 4 * 4 - length name) 0) ≡ part_bytes 0 (begins name)
+unfolding part_bytes padding
+begin_bytes name =
     let e : (length name + 4) / 4 * 4 - length name ≡ suc ((length name + 1 + 3) / 4 * 4 - (length name + 1)) = omega arith in
     ap (λ (k : ℕ). bytes4 1 ++ (name ++ replicate k 0)) e
 
-pub property-bytes : (a : ℕ) (value : List ℕ)
-    → bytes4 3 ++ (bytes4 (length value) ++ (bytes4 a ++ (value ++ replicate ((length value + 3) / 4 * 4 - length value) 0))) ≡ partBytes a (property [] value)
-unfolding partBytes padding
-property-bytes a value = refl
+pub property_bytes : (a : ℕ) (value : List ℕ)
+    → bytes4 3 ++ (bytes4 (length value) ++ (bytes4 a ++ (value ++ replicate ((length value + 3) / 4 * 4 - length value) 0))) ≡ part_bytes a (property [] value)
+unfolding part_bytes padding
+property_bytes a value = refl
 
-pub name-bytes : (name : List ℕ) → replicate 1 0 ++ reverse name ≡ reverse (name ++ (0 ∷ []))
-name-bytes name = sym (reverse-append name (0 ∷ []))
+pub name_bytes_lem : (name : List ℕ) → replicate 1 0 ++ reverse name ≡ reverse (name ++ (0 ∷ []))
+name_bytes_lem name = sym (reverse-append name (0 ∷ []))
 
 -- ── What a call leaves ──
-module _ (w : Writer) (c : Call) (buf : List ℕ) {a : WriteAnswer} (is : a ≡ answer_of w c (length buf)) {k : ℕ} (told-number : k ≡ writeNumber a) where
+module _ (w : Writer) (c : Call) (buf : List ℕ) {a : WriteAnswer} (is : a ≡ answer_of w c (length buf)) {k : ℕ} (told-number : k ≡ write_number a) where
   pub refused : (k ≡ 0 → ⊥) → unchanged w buf a ≡ outcome w c buf
   unfolding outcome
   refused n = rw (← is) (not_done a (λ z. n (told-number ∙ z)))
     where
-      not_done : (a : WriteAnswer) → (writeNumber a ≡ 0 → ⊥) → unchanged w buf a ≡ onDone a (taken w c buf) (unchanged w buf a)
+      not_done : (a : WriteAnswer) → (write_number a ≡ 0 → ⊥) → unchanged w buf a ≡ on_done a (taken w c buf) (unchanged w buf a)
       not_done Done n = absurd (n refl)
       not_done OutOfTurn n = refl
       not_done OverLimit n = refl
       not_done NoRoom n = refl
 
-  pub made : k ≡ 0 → {buf' : List ℕ} → buf' ≡ laidBy w c buf → record { writer = after w c; size = told w c; answer = Done; buffer = buf' } ≡ outcome w c buf
+  pub made : k ≡ 0 → {buf' : List ℕ} → buf' ≡ laid_by w c buf → record { writer = after w c; size = told w c; answer = Done; buffer = buf' } ≡ outcome w c buf
   unfolding outcome
   made z e = rw (answered w c (length buf) is told-number z, e)
 
 module _ (w : Writer) {buf buf' : List ℕ} {r : ℕ} where
-  pub lay-begin : (name : List ℕ) → Writes buf (part_at w) (partBytes 0 (begins name)) buf' r → buf' ≡ partLaid w (begins name) buf
-  unfolding partLaid partBytes nameBytes
-  lay-begin name h = h.put ∙ paste-zero _ (length buf - w.strings - nameSize (begins name)) []
+  pub lay_begin : (name : List ℕ) → Writes buf (part_at w) (part_bytes 0 (begins name)) buf' r → buf' ≡ part_laid w (begins name) buf
+  unfolding part_laid part_bytes name_bytes
+  lay_begin name h = h.put ∙ paste-zero _ (length buf - w.strings - name_size (begins name)) []
 
-  pub lay-end : Writes buf (part_at w) (bytes4 2) buf' r → buf' ≡ partLaid w ends buf
-  unfolding partLaid partBytes nameBytes
-  lay-end h = h.put ∙ paste-zero _ (length buf - w.strings - nameSize ends) []
+  pub lay_end : Writes buf (part_at w) (bytes4 2) buf' r → buf' ≡ part_laid w ends buf
+  unfolding part_laid part_bytes name_bytes
+  lay_end h = h.put ∙ paste-zero _ (length buf - w.strings - name_size ends) []
 
-  pub lay-property : (name value : List ℕ) {b : List ℕ} {q : ℕ} → Writes buf (part_at w) (partBytes w.strings (property [] value)) b q → length b ≡ length buf
-      → Writes b (length b - w.strings - (length name + 1)) (reverse (name ++ (0 ∷ []))) buf' r → buf' ≡ partLaid w (property name value) buf
-  unfolding partLaid partBytes nameBytes nameSize
-  lay-property name value {b} h l g =
+  pub lay_property : (name value : List ℕ) {b : List ℕ} {q : ℕ} → Writes buf (part_at w) (part_bytes w.strings (property [] value)) b q → length b ≡ length buf
+      → Writes b (length b - w.strings - (length name + 1)) (reverse (name ++ (0 ∷ []))) buf' r → buf' ≡ part_laid w (property name value) buf
+  unfolding part_laid part_bytes name_bytes name_size
+  lay_property name value {b} h l g =
       g.put
       ∙ ap (λ (n : ℕ). laid b (n - w.strings - (length name + 1)) (reverse (name ++ (0 ∷ [])))) l
       ∙ ap (λ (s : List ℕ). laid s (length buf - w.strings - (length name + 1)) (reverse (name ++ (0 ∷ [])))) h.put
 
-  pub lay-entry : (address size : ℕ) → Writes buf (40 + 16 * w.reserved) (bytes8 address ++ bytes8 size) buf' r → buf' ≡ reservationLaid w address size buf
-  unfolding reservationLaid
-  lay-entry address size h = h.put
+  pub lay_entry : (address size : ℕ) → Writes buf (40 + 16 * w.reserved) (bytes8 address ++ bytes8 size) buf' r → buf' ≡ reservation_laid w address size buf
+  unfolding reservation_laid
+  lay_entry address size h = h.put
 
-pub turned-length : (l : List ℕ) (from : ℕ) {b : List ℕ} → from ≤ length l → b ≡ take from l ++ reverse (drop from l) → length b ≡ length l
-turned-length l from h e =
+pub turned_length : (l : List ℕ) (from : ℕ) {b : List ℕ} → from ≤ length l → b ≡ take from l ++ reverse (drop from l) → length b ≡ length l
+turned_length l from h e =
     ap length e ∙ length-append (take from l) (reverse (drop from l)) ∙ omega (arith, length-take from l, length-reverse (drop from l), length-drop from l)
 
 -- ── The header ──
-pub header-room : (m b n long : ℕ) → 40 ≤ long → 0 + length (header m b n) ≤ long
-header-room m b n long h = omega (arith, header-length m b n)
+pub header_room : (m b n long : ℕ) → 40 ≤ long → 0 + length (header m b n) ≤ long
+header_room m b n long h = omega (arith, header_length m b n)
 
 -- ── The end: each step keeps the buffer's length, so that the next has room ──
 module _ (w : Writer) (buf : List ℕ) (r : Ended w (length buf)) {b1 b2 b3 b4 buf' : List ℕ} {q1 q2 q4 q5 : ℕ} (p1 : Put buf (40 + 16 * w.reserved) (replicate 16 0) b1 q1)
@@ -94,20 +94,20 @@ module _ (w : Writer) (buf : List ℕ) (r : Ended w (length buf)) {b1 b2 b3 b4 b
   l1 = kept h1 (omega (arith, length-replicate {A = ℕ} 16 0))
 
   h2 : Writes b1 (part_at w) (bytes4 9) b2 q2
-  h2 = p2.fits (omega (arith, bytes4-length 9, l1))
+  h2 = p2.fits (omega (arith, bytes4_length 9, l1))
 
   l2 : length b2 ≡ length buf
-  l2 = kept h2 (omega (arith, bytes4-length 9, l1)) ∙ l1
+  l2 = kept h2 (omega (arith, bytes4_length 9, l1)) ∙ l1
 
   l3 : length b3 ≡ length buf
-  l3 = turned-length b2 (end_at w) (omega (arith, l2)) h3 ∙ l2
+  l3 = turned_length b2 (end_at w) (omega (arith, l2)) h3 ∙ l2
 
   h4 : Writes b3 (end_at w + w.strings) (replicate (length b3 - (end_at w + w.strings)) 0) b4 q4
   h4 = p4.fits (omega (arith, length-replicate {A = ℕ} (length b3 - (end_at w + w.strings)) 0, l3))
 
-  pub lay-blob : buf' ≡ blobLaid w buf
-  unfolding blobLaid blocksLaid
-  lay-blob =
+  pub lay_blob : buf' ≡ blob_laid w buf
+  unfolding blob_laid blocks_laid
+  lay_blob =
       let e2 : b2 ≡ laid (laid buf (40 + 16 * w.reserved) (replicate 16 0)) (part_at w) (bytes4 9) = h2.put ∙ ap (λ (s : List ℕ). laid s (part_at w) (bytes4 9)) h1.put in
       let e3 : b3 ≡ turned (laid (laid buf (40 + 16 * w.reserved) (replicate 16 0)) (part_at w) (bytes4 9)) (end_at w) = h3 ∙ ap (λ (s : List ℕ). turned s (end_at w)) e2 in
       let e4 = h4.put ∙ ap (λ (n : ℕ). laid b3 (end_at w + w.strings) (replicate (n - (end_at w + w.strings)) 0)) l3
@@ -115,7 +115,7 @@ module _ (w : Writer) (buf : List ℕ) (r : Ended w (length buf)) {b1 b2 b3 b4 b
       h5.put ∙ ap (λ (s : List ℕ). laid s 0 (header (16 * (w.reserved + 1)) (w.structure + 4) w.strings)) e4
 
 -- the length that is told is that of what stands
-module _ (w : Writer) (buf : List ℕ) {a : WriteAnswer} (is : a ≡ answer_of w finish (length buf)) {k : ℕ} (told-number : k ≡ writeNumber a) (zero : k ≡ 0) where
-  pub finish-made : {buf' : List ℕ} → buf' ≡ blobLaid w buf → record { writer = after w finish; size = part_at w + 4 + w.strings; answer = Done; buffer = buf' } ≡ outcome w finish buf
-  finish-made {buf'} e =
-      ap (λ (n : ℕ). record { writer = after w finish; size = n; answer = Done; buffer = buf' }) (finish-size w (length buf) told-number zero is) ∙ made w finish buf is told-number zero e
+module _ (w : Writer) (buf : List ℕ) {a : WriteAnswer} (is : a ≡ answer_of w finish (length buf)) {k : ℕ} (told-number : k ≡ write_number a) (zero : k ≡ 0) where
+  pub finish_made : {buf' : List ℕ} → buf' ≡ blob_laid w buf → record { writer = after w finish; size = part_at w + 4 + w.strings; answer = Done; buffer = buf' } ≡ outcome w finish buf
+  finish_made {buf'} e =
+      ap (λ (n : ℕ). record { writer = after w finish; size = n; answer = Done; buffer = buf' }) (finish_size w (length buf) told-number zero is) ∙ made w finish buf is told-number zero e

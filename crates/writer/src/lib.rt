@@ -2,11 +2,11 @@
 // writes, the names grow down from the buffer's end, last byte first; finishing turns them round behind the structure. No call asks anything:
 // every writer value, buffer, name and value gets an answer.
 ghost use Rattle.std.specs.Prelude.{◌≡◌, [], ◌∷◌, ◌++◌, reverse, ◌+◌, ◌≤◌, length};
-ghost use Rattle.flattened.specs.Parts.{begins, property, ends, partSize, partBytes};
+ghost use Rattle.flattened.specs.Parts.{begins, property, ends, part_size, part_bytes};
 ghost use Rattle.flattened.specs.Blob.{header};
 ghost use Rattle.pen.specs.Numbers.{bytes4};
 ghost use Rattle.pen.specs.Writing.{Writes};
-ghost use Rattle.writer.specs.Writer.{reserve, write, finish, writeNumber, fresh, finalSize, roomAnswer, answer_of};
+ghost use Rattle.writer.specs.Writer.{reserve, write, finish, write_number, fresh, final_size, room_answer, answer_of};
 ghost use Rattle.writer.specs.Calls.{outcome, wrote, finished};
 
 // Where a writer stands: the reservations, the bytes of the structure block and of the strings block, the open nodes, the nodes begun,
@@ -33,7 +33,7 @@ pub enum WriteAnswer {
 
 impl WriteAnswer {
     pub fn number(self) -> u8
-        ensures { result ≡ writeNumber self }
+        ensures { result ≡ write_number self }
     {
         match self {
             WriteAnswer::Done => 0,
@@ -76,7 +76,7 @@ pub fn start() -> Writer
 
 // Whether the blob, with so many bytes more than closing calls alone would finish, is within the limit and the buffer.
 fn room_for(w: Writer, more: usize, room: usize) -> WriteAnswer
-    ensures { result ≡ roomAnswer (finalSize w + more) room }
+    ensures { result ≡ room_answer (final_size w + more) room }
 {
     let reserved = w.reserved;
     let structure = w.structure;
@@ -105,7 +105,7 @@ fn room_for(w: Writer, more: usize, room: usize) -> WriteAnswer
 }
 
 fn sized(size: usize, room: usize) -> WriteAnswer
-    ensures { result ≡ roomAnswer size room }
+    ensures { result ≡ room_answer size room }
 {
     if 1048576 < size {
         return WriteAnswer::OverLimit;
@@ -222,8 +222,8 @@ fn judge_finish(w: Writer, room: usize) -> WriteAnswer
 
 // The bytes of a node's begin: its name, its zero byte and padding.
 fn put_begin(out: &mut [u8], at: usize, name: &[u8]) -> usize
-    requires { at + partSize (begins name.now) ≤ length out.old }
-    ensures { Writes out.old at (partBytes 0 (begins name.now)) out.new result }
+    requires { at + part_size (begins name.now) ≤ length out.old }
+    ensures { Writes out.old at (part_bytes 0 (begins name.now)) out.new result }
 {
     let a = pen::put32(out, at, 1);
     let b = pen::put(out, a, name);
@@ -232,8 +232,8 @@ fn put_begin(out: &mut [u8], at: usize, name: &[u8]) -> usize
 
 // The bytes of a property whose name stands at a place of the strings block.
 fn put_property(out: &mut [u8], at: usize, name: usize, value: &[u8]) -> usize
-    requires { at + partSize (property [] value.now) ≤ length out.old }
-    ensures { Writes out.old at (partBytes name (property [] value.now)) out.new result }
+    requires { at + part_size (property [] value.now) ≤ length out.old }
+    ensures { Writes out.old at (part_bytes name (property [] value.now)) out.new result }
 {
     let a = pen::put32(out, at, 3);
     let b = pen::put32(out, a, value.len());

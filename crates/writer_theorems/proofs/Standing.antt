@@ -11,83 +11,83 @@ use Rattle.flattened.specs.Parts.{Part, begins, property, ends}
 use Rattle.writer.specs.declared.Writer.{Writer}
 use Rattle.writer.specs.declared.WriteAnswer.{WriteAnswer}
 use Rattle.writer.specs.declared.WriteAnswer.TheVariants.{Done, OutOfTurn, OverLimit, NoRoom}
-use Rattle.writer.specs.Writer.{Call, reserve, write, finish, onDone, writeNumber, fresh, in_turn, after, answer_of}
-use Rattle.writer.specs.Calls.{laidBy, Outcome, taken, unchanged, outcome}
-use Rattle.writer.proofs.Accepting.{call-passed, done-is}
-use Rattle.writer_theorems.specs.History.{Account, withCall, Sized, History, starts, goes}
-use Rattle.writer_theorems.proofs.Holding.{Holds, holds-start}
-use Rattle.writer_theorems.proofs.Stepping.{holds-part, holds-reservation}
+use Rattle.writer.specs.Writer.{Call, reserve, write, finish, on_done, write_number, fresh, in_turn, after, answer_of}
+use Rattle.writer.specs.Calls.{laid_by, Outcome, taken, unchanged, outcome}
+use Rattle.writer.proofs.Accepting.{call_passed, done_is}
+use Rattle.writer_theorems.specs.History.{Account, with_call, Sized, History, starts, goes}
+use Rattle.writer_theorems.proofs.Holding.{Holds, holds_start}
+use Rattle.writer_theorems.proofs.Stepping.{holds_part, holds_reservation}
 
 -- ── What a call comes to, by its answer ──
 module _ (w : Writer) (c : Call) (buf : List ℕ) where
-  pub outcome-done : answer_of w c (length buf) ≡ Done → outcome w c buf ≡ taken w c buf
+  pub outcome_done : answer_of w c (length buf) ≡ Done → outcome w c buf ≡ taken w c buf
   unfolding outcome
-  outcome-done e = rw e
+  outcome_done e = rw e
 
-  pub outcome-refused : (x : WriteAnswer) → answer_of w c (length buf) ≡ x → (x ≡ Done → ⊥) → outcome w c buf ≡ unchanged w buf x
+  pub outcome_refused : (x : WriteAnswer) → answer_of w c (length buf) ≡ x → (x ≡ Done → ⊥) → outcome w c buf ≡ unchanged w buf x
   unfolding outcome
-  outcome-refused x e n = rw e (other x n)
+  outcome_refused x e n = rw e (other x n)
     where
-      other : (x : WriteAnswer) → (x ≡ Done → ⊥) → onDone x (taken w c buf) (unchanged w buf x) ≡ unchanged w buf x
+      other : (x : WriteAnswer) → (x ≡ Done → ⊥) → on_done x (taken w c buf) (unchanged w buf x) ≡ unchanged w buf x
       other Done n = absurd (n refl)
       other OutOfTurn n = refl
       other OverLimit n = refl
       other NoRoom n = refl
 
   -- the answer of the outcome is the answer
-  pub outcome-answer : (outcome w c buf).answer ≡ answer_of w c (length buf)
-  outcome-answer = go (answer_of w c (length buf)) refl
+  pub outcome_answer : (outcome w c buf).answer ≡ answer_of w c (length buf)
+  outcome_answer = go (answer_of w c (length buf)) refl
     where
       go : (x : WriteAnswer) → answer_of w c (length buf) ≡ x → (outcome w c buf).answer ≡ x
-      go Done e = ap (λ (o : Outcome). o.answer) (outcome-done e)
-      go OutOfTurn e = ap (λ (o : Outcome). o.answer) (outcome-refused OutOfTurn e (λ z. never (cc)))
-      go OverLimit e = ap (λ (o : Outcome). o.answer) (outcome-refused OverLimit e (λ z. never (cc)))
-      go NoRoom e = ap (λ (o : Outcome). o.answer) (outcome-refused NoRoom e (λ z. never (cc)))
+      go Done e = ap (λ (o : Outcome). o.answer) (outcome_done e)
+      go OutOfTurn e = ap (λ (o : Outcome). o.answer) (outcome_refused OutOfTurn e (λ z. never (cc)))
+      go OverLimit e = ap (λ (o : Outcome). o.answer) (outcome_refused OverLimit e (λ z. never (cc)))
+      go NoRoom e = ap (λ (o : Outcome). o.answer) (outcome_refused NoRoom e (λ z. never (cc)))
 
   -- "A refused call leaves the buffer and the writer's place unchanged."
-  pub refused-leaves : (writeNumber (outcome w c buf).answer ≡ 0 → ⊥) → ((outcome w c buf).writer ≡ w) × ((outcome w c buf).buffer ≡ buf)
-  refused-leaves n =
+  pub refused_leaves : (write_number (outcome w c buf).answer ≡ 0 → ⊥) → ((outcome w c buf).writer ≡ w) × ((outcome w c buf).buffer ≡ buf)
+  refused_leaves n =
       let k : outcome w c buf ≡ unchanged w buf (answer_of w c (length buf)) =
-      outcome-refused (answer_of w c (length buf)) refl (λ z. n (ap writeNumber (outcome-answer ∙ z))) in
+      outcome_refused (answer_of w c (length buf)) refl (λ z. n (ap write_number (outcome_answer ∙ z))) in
       (ap (λ (o : Outcome). o.writer) k, ap (λ (o : Outcome). o.buffer) k)
 
 -- once it has finished, no call is in turn
-pub over-turn : (w : Writer) (c : Call) → w.done ≡ true → in_turn w c ≡ false
+pub over_turn : (w : Writer) (c : Call) → w.done ≡ true → in_turn w c ≡ false
 unfolding in_turn
-over-turn w (reserve p z) e = rw e
-over-turn w (write (begins name)) e = rw e
-over-turn w (write (property name value)) e = rw e
-over-turn w (write ends) e = rw e
-over-turn w finish e = rw e
+over_turn w (reserve p z) e = rw e
+over_turn w (write (begins name)) e = rw e
+over_turn w (write (property name value)) e = rw e
+over_turn w (write ends) e = rw e
+over_turn w finish e = rw e
 
 -- ── Where a sequence of calls comes to stand ──
 pub data Stands (w : Writer) (buf : List ℕ) (a : Account) : Type 0 where
   going : a.finished ≡ false → Holds w buf a.entries a.parts → Stands w buf a
   over : w.done ≡ true → a.finished ≡ true → Stands w buf a
 
-stands-taken : (w : Writer) (buf : List ℕ) (a : Account) → Stands w buf a → (c : Call) → Sized c → answer_of w c (length buf) ≡ Done → Stands (after w c) (laidBy w c buf) (withCall a c)
+stands_taken : (w : Writer) (buf : List ℕ) (a : Account) → Stands w buf a → (c : Call) → Sized c → answer_of w c (length buf) ≡ Done → Stands (after w c) (laid_by w c buf) (with_call a c)
 unfolding after
-stands-taken w buf a (going f h) (reserve p z) s d = going f (holds-reservation w buf a.entries a.parts h p z s.0 s.1 d)
-stands-taken w buf a (going f h) (write x) s d = going f (holds-part w buf a.entries a.parts h x d)
-stands-taken w buf a (going f h) finish s d = over refl refl
-stands-taken w buf a (over e f) c s d =
-    let t = (call-passed w c (length buf) d).turned in
-    let u = over-turn w c e in
+stands_taken w buf a (going f h) (reserve p z) s d = going f (holds_reservation w buf a.entries a.parts h p z s.0 s.1 d)
+stands_taken w buf a (going f h) (write x) s d = going f (holds_part w buf a.entries a.parts h x d)
+stands_taken w buf a (going f h) finish s d = over refl refl
+stands_taken w buf a (over e f) c s d =
+    let t = (call_passed w c (length buf) d).turned in
+    let u = over_turn w c e in
     never (cc)
 
 -- after a call that came to o
 abbrev AfterCall : Account → Call → Outcome → Type 0
-AfterCall a c o = Stands o.writer o.buffer (onDone o.answer (withCall a c) a)
+AfterCall a c o = Stands o.writer o.buffer (on_done o.answer (with_call a c) a)
 
 stands_on : (w : Writer) (buf : List ℕ) (a : Account) → Stands w buf a → (c : Call) → Sized c → AfterCall a c (outcome w c buf)
 stands_on w buf a h c s = go (answer_of w c (length buf)) refl
   where
     go : (x : WriteAnswer) → answer_of w c (length buf) ≡ x → AfterCall a c (outcome w c buf)
-    go Done e = subst (AfterCall a c) (sym (outcome-done w c buf e)) (stands-taken w buf a h c s e)
-    go OutOfTurn e = subst (AfterCall a c) (sym (outcome-refused w c buf OutOfTurn e (λ z. never (cc)))) h
-    go OverLimit e = subst (AfterCall a c) (sym (outcome-refused w c buf OverLimit e (λ z. never (cc)))) h
-    go NoRoom e = subst (AfterCall a c) (sym (outcome-refused w c buf NoRoom e (λ z. never (cc)))) h
+    go Done e = subst (AfterCall a c) (sym (outcome_done w c buf e)) (stands_taken w buf a h c s e)
+    go OutOfTurn e = subst (AfterCall a c) (sym (outcome_refused w c buf OutOfTurn e (λ z. never (cc)))) h
+    go OverLimit e = subst (AfterCall a c) (sym (outcome_refused w c buf OverLimit e (λ z. never (cc)))) h
+    go NoRoom e = subst (AfterCall a c) (sym (outcome_refused w c buf NoRoom e (λ z. never (cc)))) h
 
 pub stands : {w : Writer} {buf : List ℕ} {a : Account} → History w buf a → Stands w buf a
-stands (starts {buf = buf}) = going refl (holds-start buf)
+stands (starts {buf = buf}) = going refl (holds_start buf)
 stands (goes {w = w} {buf = buf} {a = a} c s h) = stands_on w buf a (stands h) c s

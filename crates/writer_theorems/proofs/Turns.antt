@@ -9,29 +9,29 @@ use lib.ListN.{length}
 use borrow.Author.Tests.{lt-leb, ne_eqb, eq-eqb}
 use Rattle.fdt.specs.Tree.{Property, Tok, begin, ended, prop, fin}
 use Rattle.fdt.specs.declared.Verdict.TheVariants.{Accepted}
-use Rattle.grammar.proofs.TreeLaws.{runL}
+use Rattle.grammar.proofs.TreeLaws.{run_l}
 
 module _ (lv nd : ℕ) where
-  pub run-root : (p : ℕ) (name : List ℕ) (ts : List Tok) (d n : ℕ) (a : Bool) → d ≡ 0 → n ≡ 0 → length name ≡ 0
-      → runL lv nd (begin p name ∷ ts) d n a ≡ runL lv nd ts (d + 1) (n + 1) true
-  unfolding runL
-  run-root p name ts d n a ed en l = rw (ed, en, eq-eqb _ _ l)
+  pub run_root : (p : ℕ) (name : List ℕ) (ts : List Tok) (d n : ℕ) (a : Bool) → d ≡ 0 → n ≡ 0 → length name ≡ 0
+      → run_l lv nd (begin p name ∷ ts) d n a ≡ run_l lv nd ts (d + 1) (n + 1) true
+  unfolding run_l
+  run_root p name ts d n a ed en l = rw (ed, en, eq-eqb _ _ l)
 
-  pub run-begin : (p : ℕ) (name : List ℕ) (ts : List Tok) (d n : ℕ) (a : Bool) → (d ≡ 0 → ⊥) → d < lv → n < nd
-      → runL lv nd (begin p name ∷ ts) d n a ≡ runL lv nd ts (d + 1) (n + 1) true
-  unfolding runL
-  run-begin p name ts zero n a z h k = absurd (z refl)
-  run-begin p name ts (suc d) n a z h k = rw (lt-leb lv (suc d) h, lt-leb _ _ k, ← add-one (suc d), ← add-one n)
+  pub run_begin : (p : ℕ) (name : List ℕ) (ts : List Tok) (d n : ℕ) (a : Bool) → (d ≡ 0 → ⊥) → d < lv → n < nd
+      → run_l lv nd (begin p name ∷ ts) d n a ≡ run_l lv nd ts (d + 1) (n + 1) true
+  unfolding run_l
+  run_begin p name ts zero n a z h k = absurd (z refl)
+  run_begin p name ts (suc d) n a z h k = rw (lt-leb lv (suc d) h, lt-leb _ _ k, ← add-one (suc d), ← add-one n)
 
-  pub run-prop : (q : Property) (ts : List Tok) (d n : ℕ) (a : Bool) → a ≡ true → runL lv nd (prop q ∷ ts) d n a ≡ runL lv nd ts d n a
-  unfolding runL
-  run-prop q ts d n a e = rw e
+  pub run_prop : (q : Property) (ts : List Tok) (d n : ℕ) (a : Bool) → a ≡ true → run_l lv nd (prop q ∷ ts) d n a ≡ run_l lv nd ts d n a
+  unfolding run_l
+  run_prop q ts d n a e = rw e
 
-  pub run_end : (ts : List Tok) (d n : ℕ) (a : Bool) → (d ≡ 0 → ⊥) → runL lv nd (ended ∷ ts) d n a ≡ runL lv nd ts (d - 1) n false
-  unfolding runL
+  pub run_end : (ts : List Tok) (d n : ℕ) (a : Bool) → (d ≡ 0 → ⊥) → run_l lv nd (ended ∷ ts) d n a ≡ run_l lv nd ts (d - 1) n false
+  unfolding run_l
   run_end ts zero n a z = absurd (z refl)
-  run_end ts (suc d) n a z = let q : d ≡ suc d - 1 = omega arith in ap (λ (k : ℕ). runL lv nd ts k n false) q
+  run_end ts (suc d) n a z = let q : d ≡ suc d - 1 = omega arith in ap (λ (k : ℕ). run_l lv nd ts k n false) q
 
-  pub run-fin : (d n : ℕ) (a : Bool) → d ≡ 0 → (n ≡ 0 → ⊥) → runL lv nd (fin ∷ []) d n a ≡ Accepted
-  unfolding runL
-  run-fin d n a e z = rw (e, ne_eqb _ _ z)
+  pub run_fin : (d n : ℕ) (a : Bool) → d ≡ 0 → (n ≡ 0 → ⊥) → run_l lv nd (fin ∷ []) d n a ≡ Accepted
+  unfolding run_l
+  run_fin d n a e z = rw (e, ne_eqb _ _ z)

@@ -8,19 +8,19 @@ use mathlib.Core.List.{List, [], ◌∷◌, ◌++◌, append_assoc}
 use lib.ListN.{length, get_or}
 use lib.Dec.{eqb, ltb}
 use borrow.Author.Tests.{eqb-true, eqb-false, ltb-true, not-true, not-false}
-use Rattle.words.specs.Bytes.{stringEnd}
-use Rattle.words.proofs.BytesLaws.{never, first-is}
-use Rattle.flattened.specs.Parts.{Part, begins, property, ends, partsSize, partTok}
+use Rattle.words.specs.Bytes.{string_end}
+use Rattle.words.proofs.BytesLaws.{never, first_is}
+use Rattle.flattened.specs.Parts.{Part, begins, property, ends, parts_size, part_tok}
 use Rattle.writer.specs.declared.Writer.{Writer}
-use Rattle.writer.specs.Writer.{Call, reserve, write, finish, noZero, in_turn}
-use Rattle.writer.proofs.Accepting.{begin-turn, property-turn, end-turn, reserve-turn, finish-turn}
+use Rattle.writer.specs.Writer.{Call, reserve, write, finish, no_zero, in_turn}
+use Rattle.writer.proofs.Accepting.{begin_turn, property_turn, end_turn, reserve_turn, finish_turn}
 use Rattle.grammar.proofs.TurnLaws.{Raised}
 use Rattle.writer_theorems.specs.History.{Account}
-use Rattle.writer_theorems.specs.Refusals.{TreeOf, HasZero, Wrong, finished, out-of-turn, zero-in-name, zero-in-property, named-root, nothing-reserved, closing}
+use Rattle.writer_theorems.specs.Refusals.{TreeOf, HasZero, Wrong, finished, out_of_turn, zero_in_name, zero_in_property, named_root, nothing_reserved, closing}
 use Rattle.writer_theorems.proofs.Holding.{Holds, no_zero}
-use Rattle.writer_theorems.proofs.Stepping.{raised-passes}
-use Rattle.writer_theorems.proofs.Finishing.{whole-tree}
-use Rattle.writer_theorems.proofs.Turning.{part-tree, no_part, no_end}
+use Rattle.writer_theorems.proofs.Stepping.{raised_passes}
+use Rattle.writer_theorems.proofs.Finishing.{whole_tree}
+use Rattle.writer_theorems.proofs.Turning.{part_tree, no_part, no_end}
 
 -- ── Tests joined by && ──
 -- the first that fails
@@ -40,17 +40,17 @@ either false true h = inr refl
 either false false h = never (cc)
 
 -- a name that the test finds a zero byte in has one
-has-zero : (name : List ℕ) → noZero name ≡ false → HasZero name
-has-zero name e =
-    let l = ltb-true (stringEnd name 0) (length name) (not-false (ltb (stringEnd name 0) (length name)) e) in
-    (stringEnd name 0, l, first-is 0 name 0 l)
+has_zero : (name : List ℕ) → no_zero name ≡ false → HasZero name
+has_zero name e =
+    let l = ltb-true (string_end name 0) (length name) (not-false (ltb (string_end name 0) (length name)) e) in
+    (string_end name 0, l, first_is 0 name 0 l)
 
-nil-of : (l : List ℕ) → length l ≡ 0 → l ≡ []
-nil-of [] h = refl
-nil-of (x ∷ l) h = absurd (omega arith)
+nil_of : (l : List ℕ) → length l ≡ 0 → l ≡ []
+nil_of [] h = refl
+nil_of (x ∷ l) h = absurd (omega arith)
 
-length-nil : (l : List ℕ) → l ≡ [] → length l ≡ 0
-length-nil l e = ap length e
+length_nil : (l : List ℕ) → l ≡ [] → length l ≡ 0
+length_nil l e = ap length e
 
 positive : (n : ℕ) → (n ≡ 0 → ⊥) → 0 < n
 positive n h = omega arith
@@ -60,12 +60,12 @@ module _ (w : Writer) (buf : List ℕ) (a : Account) (h : Holds w buf a.entries 
   Outside x = (ys : List Part) → TreeOf (a.parts ++ (x ∷ ys)) → ⊥
 
   outside : (x : Part) → Outside x → Wrong a (write x)
-  outside x o = out-of-turn o
+  outside x o = out_of_turn o
 
   -- ── Out of turn: something is wrong ──
-  wrong-reserve : (p z : ℕ) → in_turn w (reserve p z) ≡ false → Wrong a (reserve p z)
+  wrong_reserve : (p z : ℕ) → in_turn w (reserve p z) ≡ false → Wrong a (reserve p z)
   unfolding in_turn
-  wrong-reserve p z t = go (which (eqb w.nodes 0) (not (eqb p 0 && eqb z 0)) (rw h.going at t))
+  wrong_reserve p z t = go (which (eqb w.nodes 0) (not (eqb p 0 && eqb z 0)) (rw h.going at t))
     where
       both_zero : (x y : Bool) → not (x && y) ≡ false → (x ≡ true) × (y ≡ true)
       both_zero true true e = (refl, refl)
@@ -73,59 +73,59 @@ module _ (w : Writer) (buf : List ℕ) (a : Account) (h : Holds w buf a.entries 
       both_zero false y e = never (cc)
 
       go : (eqb w.nodes 0 ≡ false) ⊎ ((eqb w.nodes 0 ≡ true) × (not (eqb p 0 && eqb z 0) ≡ false)) → Wrong a (reserve p z)
-      go (inl e) = out-of-turn (λ n. eqb-false _ _ e (h.begun-none n))
+      go (inl e) = out_of_turn (λ n. eqb-false _ _ e (h.begun_none n))
       go (inr e) =
           let b = both_zero (eqb p 0) (eqb z 0) e.1 in
-          subst (λ (q : ℕ). Wrong a (reserve q z)) (sym (eqb-true _ _ b.0)) (subst (λ (q : ℕ). Wrong a (reserve 0 q)) (sym (eqb-true _ _ b.1)) nothing-reserved)
+          subst (λ (q : ℕ). Wrong a (reserve q z)) (sym (eqb-true _ _ b.0)) (subst (λ (q : ℕ). Wrong a (reserve 0 q)) (sym (eqb-true _ _ b.1)) nothing_reserved)
 
-  wrong-begin : (name : List ℕ) → in_turn w (write (begins name)) ≡ false → Wrong a (write (begins name))
-  unfolding in_turn partTok
-  wrong-begin name t = go (which (noZero name) _ (rw h.going at t))
+  wrong_begin : (name : List ℕ) → in_turn w (write (begins name)) ≡ false → Wrong a (write (begins name))
+  unfolding in_turn part_tok
+  wrong_begin name t = go (which (no_zero name) _ (rw h.going at t))
     where
-      go : (noZero name ≡ false) ⊎ ((noZero name ≡ true) × (cond (eqb w.nodes 0) (eqb w.depth 0 && eqb (length name) 0) (not (eqb w.depth 0)) ≡ false)) → Wrong a (write (begins name))
-      go (inl e) = zero-in-name (has-zero name e)
+      go : (no_zero name ≡ false) ⊎ ((no_zero name ≡ true) × (cond (eqb w.nodes 0) (eqb w.depth 0 && eqb (length name) 0) (not (eqb w.depth 0)) ≡ false)) → Wrong a (write (begins name))
+      go (inl e) = zero_in_name (has_zero name e)
       go (inr e) =
           ⊎_elim
           (λ k.
           let n = eqb-true _ _ k.0 in
           let l = eqb-false (length name) 0 (k.1 (eqb_of w.depth (h.outside n))) in
-          named-root (h.bare n) (λ q. l (length-nil name q)))
+          named_root (h.bare n) (λ q. l (length_nil name q)))
           (λ k. outside (begins name) (no_part w buf a.entries a.parts h (begins name) (eqb-true _ _ k.1, inl (positive w.nodes (eqb-false _ _ k.0)))))
           (pick (eqb w.nodes 0) (eqb w.depth 0) (eqb (length name) 0) e.1)
         where
           eqb_of : (d : ℕ) → d ≡ 0 → eqb d 0 ≡ true
           eqb_of d q = rw q
 
-  wrong-property : (name value : List ℕ) → in_turn w (write (property name value)) ≡ false → Wrong a (write (property name value))
-  unfolding in_turn partTok
-  wrong-property name value t = go (which w.props (noZero name) (rw h.going at t))
+  wrong_property : (name value : List ℕ) → in_turn w (write (property name value)) ≡ false → Wrong a (write (property name value))
+  unfolding in_turn part_tok
+  wrong_property name value t = go (which w.props (no_zero name) (rw h.going at t))
     where
-      go : (w.props ≡ false) ⊎ ((w.props ≡ true) × (noZero name ≡ false)) → Wrong a (write (property name value))
+      go : (w.props ≡ false) ⊎ ((w.props ≡ true) × (no_zero name ≡ false)) → Wrong a (write (property name value))
       go (inl e) = outside (property name value) (no_part w buf a.entries a.parts h (property name value) e)
-      go (inr e) = zero-in-property (has-zero name e.1)
+      go (inr e) = zero_in_property (has_zero name e.1)
 
-  wrong-end : in_turn w (write ends) ≡ false → Wrong a (write ends)
-  unfolding in_turn partTok
-  wrong-end t = go (either (eqb w.nodes 0) (eqb w.depth 0) (rw h.going at t))
+  wrong_end : in_turn w (write ends) ≡ false → Wrong a (write ends)
+  unfolding in_turn part_tok
+  wrong_end t = go (either (eqb w.nodes 0) (eqb w.depth 0) (rw h.going at t))
     where
       go : (eqb w.nodes 0 ≡ true) ⊎ (eqb w.depth 0 ≡ true) → Wrong a (write ends)
       go (inl e) = outside ends (no_part w buf a.entries a.parts h ends (h.outside (eqb-true _ _ e)))
       go (inr e) = outside ends (no_part w buf a.entries a.parts h ends (eqb-true _ _ e))
 
-  wrong-finish : in_turn w finish ≡ false → Wrong a finish
+  wrong_finish : in_turn w finish ≡ false → Wrong a finish
   unfolding in_turn
-  wrong-finish t = go (which (not (eqb w.nodes 0)) (eqb w.depth 0) (rw h.going at t))
+  wrong_finish t = go (which (not (eqb w.nodes 0)) (eqb w.depth 0) (rw h.going at t))
     where
       go : (not (eqb w.nodes 0) ≡ false) ⊎ ((not (eqb w.nodes 0) ≡ true) × (eqb w.depth 0 ≡ false)) → Wrong a finish
-      go (inl e) = out-of-turn (no_end w buf a.entries a.parts h (inr (eqb-true _ _ (not-false _ e))))
-      go (inr e) = out-of-turn (no_end w buf a.entries a.parts h (inl (positive w.depth (eqb-false _ _ e.1))))
+      go (inl e) = out_of_turn (no_end w buf a.entries a.parts h (inr (eqb-true _ _ (not-false _ e))))
+      go (inr e) = out_of_turn (no_end w buf a.entries a.parts h (inl (positive w.depth (eqb-false _ _ e.1))))
 
-  pub wrong-of : (c : Call) → in_turn w c ≡ false → Wrong a c
-  wrong-of (reserve p z) t = wrong-reserve p z t
-  wrong-of (write (begins name)) t = wrong-begin name t
-  wrong-of (write (property name value)) t = wrong-property name value t
-  wrong-of (write ends) t = wrong-end t
-  wrong-of finish t = wrong-finish t
+  pub wrong_of : (c : Call) → in_turn w c ≡ false → Wrong a c
+  wrong_of (reserve p z) t = wrong_reserve p z t
+  wrong_of (write (begins name)) t = wrong_begin name t
+  wrong_of (write (property name value)) t = wrong_property name value t
+  wrong_of (write ends) t = wrong_end t
+  wrong_of finish t = wrong_finish t
 
   -- ── In turn: nothing is wrong ──
   raised : Raised 33 4097
@@ -133,18 +133,18 @@ module _ (w : Writer) (buf : List ℕ) (a : Account) (h : Holds w buf a.entries 
 
   pub goes_on : (x : Part) → in_turn w (write x) ≡ true → TreeOf (a.parts ++ (x ∷ closing (a.parts ++ (x ∷ []))))
   goes_on x t =
-      let r = part-tree w buf a.entries a.parts h x t 33 4097 raised (raised-passes w x h.deep h.many) in
+      let r = part_tree w buf a.entries a.parts h x t 33 4097 raised (raised_passes w x h.deep h.many) in
       record { props = r.0; kids = r.1; parts = sym (append_assoc a.parts (x ∷ []) (closing (a.parts ++ (x ∷ [])))) ∙ r.2 }
 
   pub right_of : a.finished ≡ false → (c : Call) → in_turn w c ≡ true → Wrong a c → ⊥
   right_of f c t (finished e) = never (cc)
-  right_of f (reserve p z) t (out-of-turn o) = o (h.bare (reserve-turn w p z t).bare)
-  right_of f (write x) t (out-of-turn o) = o (closing (a.parts ++ (x ∷ []))) (goes_on x t)
-  right_of f finish t (out-of-turn o) =
-      let r = whole-tree w buf a.entries a.parts h (finish-turn w t) in
+  right_of f (reserve p z) t (out_of_turn o) = o (h.bare (reserve_turn w p z t).bare)
+  right_of f (write x) t (out_of_turn o) = o (closing (a.parts ++ (x ∷ []))) (goes_on x t)
+  right_of f finish t (out_of_turn o) =
+      let r = whole_tree w buf a.entries a.parts h (finish_turn w t) in
       o (record { props = r.0; kids = r.1; parts = r.2 })
-  right_of f (write (begins name)) t (zero-in-name z) = no_zero name (begin-turn w name t).clean z.0 z.1 z.2
-  right_of f (write (property name value)) t (zero-in-property z) = no_zero name (property-turn w name value t).clean z.0 z.1 z.2
-  right_of f (write (begins name)) t (named-root e n) =
-      ⊎_elim (λ k. n (nil-of name k.2)) (λ k. k.0 (h.begun-none e)) (begin-turn w name t).which
-  right_of f (reserve p z) t nothing-reserved = (reserve-turn w 0 0 t).some refl refl
+  right_of f (write (begins name)) t (zero_in_name z) = no_zero name (begin_turn w name t).clean z.0 z.1 z.2
+  right_of f (write (property name value)) t (zero_in_property z) = no_zero name (property_turn w name value t).clean z.0 z.1 z.2
+  right_of f (write (begins name)) t (named_root e n) =
+      ⊎_elim (λ k. n (nil_of name k.2)) (λ k. k.0 (h.begun_none e)) (begin_turn w name t).which
+  right_of f (reserve p z) t nothing_reserved = (reserve_turn w 0 0 t).some refl refl

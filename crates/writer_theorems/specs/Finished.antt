@@ -3,8 +3,8 @@
 use Rattle.std.specs.Prelude.{◌≡◌, ℕ, ◌-◌, List, [], ◌∷◌, ◌++◌, length, replicate}
 use Rattle.cells.specs.declared.Region.{Region}
 use Rattle.flattened.specs.Parts.{Part}
-use Rattle.flattened.specs.Forest.{NamedValue, Forest, treeParts}
-use Rattle.flattened.specs.Blob.{blobOf}
+use Rattle.flattened.specs.Forest.{NamedValue, Forest, tree_parts}
+use Rattle.flattened.specs.Blob.{blob_of}
 use Rattle.flattened.specs.ReadBack.{ReadBack}
 use Rattle.writer.specs.Writer.{Call, reserve, write, finish}
 use Rattle.writer.specs.Calls.{Outcome}
@@ -15,10 +15,10 @@ use Rattle.writer_theorems.specs.Refusals.{TreeOf}
 -- the blob's length; and the blob is read back, alone and in the buffer
 pub record Finishes (buf : List ℕ) (a : Account) (o : Outcome) : Type 0 where
   pub tree : TreeOf a.parts
-  pub bytes : o.buffer ≡ blobOf a.entries tree.props tree.kids ++ replicate (length buf - o.size) 0
-  pub size : o.size ≡ length (blobOf a.entries tree.props tree.kids)
+  pub bytes : o.buffer ≡ blob_of a.entries tree.props tree.kids ++ replicate (length buf - o.size) 0
+  pub size : o.size ≡ length (blob_of a.entries tree.props tree.kids)
   pub long : length o.buffer ≡ length buf
-  pub alone : ReadBack (blobOf a.entries tree.props tree.kids) a.entries tree.props tree.kids
+  pub alone : ReadBack (blob_of a.entries tree.props tree.kids) a.entries tree.props tree.kids
   pub inside : ReadBack o.buffer a.entries tree.props tree.kids
 
 -- ── The calls that write a tree with its reservations ──
@@ -31,5 +31,5 @@ writing [] cs = cs
 writing (x ∷ xs) cs = write x ∷ writing xs cs
 
 -- "Reservations come before the root"
-abbrev pub callsFor : List Region → List NamedValue → Forest → List Call
-callsFor rs ps kids = reserving rs (writing (treeParts ps kids) (finish ∷ []))
+abbrev pub calls_for : List Region → List NamedValue → Forest → List Call
+calls_for rs ps kids = reserving rs (writing (tree_parts ps kids) (finish ∷ []))

@@ -2,7 +2,7 @@
 use mathlib.Core.Path.{ap}
 use borrow.Author.Rules.{rules}
 use Rattle.memory.specs.declared.Registered.{Registered}
-use Rattle.memory.proofs.MapLaws.{blank-made}
+use Rattle.memory.proofs.MapLaws.{blank_made}
 use Rattle.bench.proofs.bench_list.Statement.{statement}
 use Rattle.bench.proofs.bench_list.Tie as tie
 
@@ -10,7 +10,7 @@ empty-requires : tie.Need-empty-requires
 empty-requires c κs = search rules
 
 register-bootloader-areas-requires : tie.Need-register-bootloader-areas-requires
-register-bootloader-areas-requires c κs = rw c.empty.ensures (blank-made 4096)
+register-bootloader-areas-requires c κs = rw c.empty.ensures (blank_made 4096)
 
 returns : tie.Need-returns
 returns c =

@@ -5,13 +5,13 @@ use native.Mathlib.Omega.{arith}
 use lib.ListN.{length}
 use borrow.Author.Rules.{rules}
 use Rattle.entry.specs.Kind.{kind_of}
-use Rattle.bootloader.specs.List.{isKnown, all_of, claimsAt, allKnown}
-use Rattle.bootloader.proofs.ListLaws.{known-done, known_step, known-stop}
+use Rattle.bootloader.specs.List.{is_known, all_of, claims_at, all_known}
+use Rattle.bootloader.proofs.ListLaws.{known_done, known_step, known_stop}
 use Rattle.bootloader.proofs.all_known.Statement.{statement}
 use Rattle.bootloader.proofs.all_known.Tie as tie
 
 abbrev invariant-loop : tie.invariant-loop
-invariant-loop list n i₀ i = (i ≤ n) × (n * 24 ≤ length list) × (all_of (claimsAt list (n - i) i) ≡ allKnown list)
+invariant-loop list n i₀ i = (i ≤ n) × (n * 24 ≤ length list) × (all_of (claims_at list (n - i) i) ≡ all_known list)
 
 abbrev decreases-loop : tie.decreases-loop
 decreases-loop list n i₀ i = n - i
@@ -45,7 +45,7 @@ returns c =
     let k = c.before.before in
     let r = k.kind-of.ensures ∙ ap kind_of k.before.le64.ensures.is in
     let l = k.before.before.before.loop in
-    sym (known-stop _ _ _ _ k.before.before.loop-test.true r (ap isKnown c.enum-told2.given.1)) ∙ l.invariant.2
+    sym (known_stop _ _ _ _ k.before.before.loop-test.true r (ap is_known c.enum-told2.given.1)) ∙ l.invariant.2
 
 add-i : tie.Need-overflow-add-i invariant-loop decreases-loop
 add-i c = search rules
@@ -58,10 +58,10 @@ loop-again c =
     let k = c.before.before in
     let r = k.kind-of.ensures ∙ ap kind_of k.before.le64.ensures.is in
     let l = k.before.before.before.loop in
-    (omega arith, omega arith, sym (known_step _ _ _ _ k.before.before.loop-test.true r (ap isKnown c.enum_told.given.1)) ∙ l.invariant.2)
+    (omega arith, omega arith, sym (known_step _ _ _ _ k.before.before.loop-test.true r (ap is_known c.enum_told.given.1)) ∙ l.invariant.2)
 
 returns-2 : tie.Need-returns-2 invariant-loop decreases-loop
-returns-2 c = sym (known-done _ _ _ c.loop-test.false) ∙ c.before.loop.invariant.2
+returns-2 c = sym (known_done _ _ _ c.loop-test.false) ∙ c.before.loop.invariant.2
 
 pub all-known-spec : {M : Type 1} → statement M
 all-known-spec =

@@ -5,10 +5,10 @@ use borrow.Author.Rules.{rules}
 use borrow.Author.Tests.{not-true, not-false}
 use Rattle.memory.specs.declared.Registered.{Registered}
 use Rattle.memory.specs.Map.{left}
-use Rattle.memory.specs.Run.{isDone}
-use Rattle.bootloader.specs.List.{allKnown}
-use Rattle.bootloader.proofs.ListLaws.{listed-unknown, listed-known}
-use Rattle.memory.proofs.RunLaws.{settled-done, settled-refused}
+use Rattle.memory.specs.Run.{is_done}
+use Rattle.bootloader.specs.List.{all_known}
+use Rattle.bootloader.proofs.ListLaws.{listed_unknown, listed_known}
+use Rattle.memory.proofs.RunLaws.{settled_done, settled_refused}
 use Rattle.memory.proofs.Refusing.{refused}
 use Rattle.bootloader.proofs.register_bootloader_areas.Statement.{statement}
 use Rattle.bootloader.proofs.register_bootloader_areas.Tie as tie
@@ -17,7 +17,7 @@ all-known-requires : tie.Need-all-known-requires
 all-known-requires c κs = search rules
 
 returns : tie.Need-returns
-returns c = sym (listed-unknown 4096 _ _ (sym c.before.all_Known.ensures ∙ not-true _ c.if1.true))
+returns c = sym (listed_unknown 4096 _ _ (sym c.before.all_Known.ensures ∙ not-true _ c.if1.true))
 
 register-list-in-requires : tie.Need-register-list-in-requires
 register-list-in-requires c κs = search rules
@@ -32,8 +32,8 @@ returns-2 c =
     let w = k.before.before.before.before.before.before.before in
     let a = w.before.before.before.args in
     let r : Registered = left g.result g.new.0 g.new.1.0 g.new.1.1.0 in
-    let known : allKnown a.list.now ≡ true = sym w.before.all_Known.ensures ∙ not-false _ w.if1.false in
-    rw (listed-known 4096 a.map _ known, ← g.ensures) (sym (settled-refused a.map r (refused g.result.answer c.match.keys2)))
+    let known : all_known a.list.now ≡ true = sym w.before.all_Known.ensures ∙ not-false _ w.if1.false in
+    rw (listed_known 4096 a.map _ known, ← g.ensures) (sym (settled_refused a.map r (refused g.result.answer c.match.keys2)))
 
 returns-3 : tie.Need-returns-3
 returns-3 c =
@@ -42,9 +42,9 @@ returns-3 c =
     let w = k.before.before.before.before.before.before.before in
     let a = w.before.before.before.args in
     let r : Registered = left g.result g.new.0 g.new.1.0 g.new.1.1.0 in
-    let known : allKnown a.list.now ≡ true = sym w.before.all_Known.ensures ∙ not-false _ w.if1.false in
+    let known : all_known a.list.now ≡ true = sym w.before.all_Known.ensures ∙ not-false _ w.if1.false in
     let done = c.enum_told.given.1 in
-    rw (listed-known 4096 a.map _ known, ← g.ensures) (rw (← done) (sym (settled-done a.map r (ap isDone done))))
+    rw (listed_known 4096 a.map _ known, ← g.ensures) (rw (← done) (sym (settled_done a.map r (ap is_done done))))
 
 pub register-bootloader-areas-spec : {M : Type 1} → statement M
 register-bootloader-areas-spec =

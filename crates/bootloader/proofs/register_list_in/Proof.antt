@@ -7,12 +7,12 @@ use borrow.Author.Rules.{rules}
 use Rattle.page.proofs.Laws.{page}
 use Rattle.memory.specs.declared.MemoryMap.{MemoryMap}
 use Rattle.memory.specs.declared.Registered.{Registered}
-use Rattle.memory.specs.Map.{mapOf, left, registered}
+use Rattle.memory.specs.Map.{map_of, left, registered}
 use Rattle.memory.specs.Made.{Made}
-use Rattle.memory.specs.Run.{isDone, registeredAll}
-use Rattle.bootloader.specs.List.{claimsAt, claimAt}
-use Rattle.bootloader.proofs.ListLaws.{all_done, all-step, all-stop}
-use Rattle.memory.proofs.MapLaws.{one-made}
+use Rattle.memory.specs.Run.{is_done, registered_all}
+use Rattle.bootloader.specs.List.{claims_at, claim_at}
+use Rattle.bootloader.proofs.ListLaws.{all_done, all_step, all_stop}
+use Rattle.memory.proofs.MapLaws.{one_made}
 use Rattle.memory.proofs.Refusing.{refused}
 use Rattle.bootloader.proofs.register_list_in.Statement.{statement}
 use Rattle.bootloader.proofs.register_list_in.Tie as tie
@@ -21,8 +21,8 @@ abbrev invariant-loop : tie.invariant-loop
 invariant-loop starts₀ ends₀ kinds₀ size list held₀ n i₀ starts ends kinds held i =
     (i ≤ n)
     × (n * 24 ≤ length list)
-    × Made 4096 (mapOf starts ends kinds held)
-    × (registeredAll 4096 (mapOf starts ends kinds held) (claimsAt list (n - i) i) ≡ registeredAll 4096 (mapOf starts₀ ends₀ kinds₀ size) (claimsAt list n 0))
+    × Made 4096 (map_of starts ends kinds held)
+    × (registered_all 4096 (map_of starts ends kinds held) (claims_at list (n - i) i) ≡ registered_all 4096 (map_of starts₀ ends₀ kinds₀ size) (claims_at list n 0))
 
 abbrev decreases-loop : tie.decreases-loop
 decreases-loop starts₀ ends₀ kinds₀ size list held₀ n i₀ starts ends kinds held i = n - i
@@ -64,11 +64,11 @@ returns c =
     let w = k.before.before.before.before in
     let l = w.before.before.before.before.loop in
     let t = w.before.before.before.before.before.before.args.list.now in
-    let m : MemoryMap = mapOf l.starts l.ends l.kinds l.held in
+    let m : MemoryMap = map_of l.starts l.ends l.kinds l.held in
     let r : Registered = left g.result g.new.0 g.new.1.0 g.new.1.1.0 in
-    let e : r ≡ registered 4096 m (claimAt t l.i)
+    let e : r ≡ registered 4096 m (claim_at t l.i)
     = rw (← w.before.before.le64.ensures.is, ← w.before.le642.ensures.is, ← w.le643.ensures.is) g.ensures in
-    sym (all-stop 4096 m t _ _ r w.before.before.before.loop-test.true e (refused g.result.answer c.match.keys2)) ∙ l.invariant.3
+    sym (all_stop 4096 m t _ _ r w.before.before.before.loop-test.true e (refused g.result.answer c.match.keys2)) ∙ l.invariant.3
 
 add-i : tie.Need-overflow-add-i invariant-loop decreases-loop
 add-i c = search rules
@@ -83,14 +83,14 @@ loop-again c =
     let w = k.before.before.before.before in
     let l = w.before.before.before.before.loop in
     let t = w.before.before.before.before.before.before.args.list.now in
-    let m : MemoryMap = mapOf l.starts l.ends l.kinds l.held in
+    let m : MemoryMap = map_of l.starts l.ends l.kinds l.held in
     let r : Registered = left g.result g.new.0 g.new.1.0 g.new.1.1.0 in
-    let e : r ≡ registered 4096 m (claimAt t l.i)
+    let e : r ≡ registered 4096 m (claim_at t l.i)
     = rw (← w.before.before.le64.ensures.is, ← w.before.le642.ensures.is, ← w.le643.ensures.is) g.ensures in (
       omega arith,
       omega arith,
-      one-made 4096 m _ r page e l.invariant.2,
-      sym (all-step 4096 m t _ _ r w.before.before.before.loop-test.true e (ap isDone c.enum_told.given.1)) ∙ l.invariant.3,
+      one_made 4096 m _ r page e l.invariant.2,
+      sym (all_step 4096 m t _ _ r w.before.before.before.loop-test.true e (ap is_done c.enum_told.given.1)) ∙ l.invariant.3,
     )
 
 returns-2 : tie.Need-returns-2 invariant-loop decreases-loop

@@ -4,13 +4,13 @@ use mathlib.Core.Path.{sym}
 use mathlib.Core.Logic.{inl, inr}
 use native.Mathlib.Omega.{arith}
 use Rattle.cells.proofs.CountLaws.{width_small}
-use Rattle.cells.proofs.RowsLaws.{in-room, ranges-empty, ranges-no, ranges-past, ranges-row}
+use Rattle.cells.proofs.RowsLaws.{in_room, ranges_empty, ranges_no, ranges_past, ranges_row}
 use borrow.Author.Rules.{rules}
 use Rattle.cells.proofs.range_row.Statement.{statement}
 use Rattle.cells.proofs.range_row.Tie as tie
 
 returns : tie.Need-returns
-returns c = sym (ranges-empty _ _ _ _ _ c.if1.true)
+returns c = sym (ranges_empty _ _ _ _ _ c.if1.true)
 
 width-requires : tie.Need-width-requires
 width-requires c κs = search rules
@@ -25,21 +25,21 @@ returns-2 : tie.Need-returns-2
 returns-2 c =
     let w = c.before in
     sym
-    (ranges-no _ _ _ _ _ _ _ _ w.before.before.width.ensures w.before.width2.ensures w.width3.ensures
+    (ranges_no _ _ _ _ _ _ _ _ w.before.before.width.ensures w.before.width2.ensures w.width3.ensures
     w.before.before.before.if1.false (inl c.if2.true))
 
 returns-3 : tie.Need-returns-3
 returns-3 c =
     let w = c.before.before in
     sym
-    (ranges-no _ _ _ _ _ _ _ _ w.before.before.width.ensures w.before.width2.ensures w.width3.ensures
+    (ranges_no _ _ _ _ _ _ _ _ w.before.before.width.ensures w.before.width2.ensures w.width3.ensures
     w.before.before.before.if1.false (inr (inl c.if3.true)))
 
 returns-4 : tie.Need-returns-4
 returns-4 c =
     let w = c.before.before.before in
     sym
-    (ranges-no _ _ _ _ _ _ _ _ w.before.before.width.ensures w.before.width2.ensures w.width3.ensures
+    (ranges_no _ _ _ _ _ _ _ _ w.before.before.width.ensures w.before.width2.ensures w.width3.ensures
     w.before.before.before.if1.false (inr (inr (inl c.if4.true))))
 
 add_row : tie.Need-overflow-add-row
@@ -59,7 +59,7 @@ returns-5 : tie.Need-returns-5
 returns-5 c =
     let w = c.before.before.before.before in
     sym
-    (ranges-no _ _ _ _ _ _ _ _ w.before.before.width.ensures w.before.width2.ensures w.width3.ensures
+    (ranges_no _ _ _ _ _ _ _ _ w.before.before.width.ensures w.before.width2.ensures w.width3.ensures
     w.before.before.before.if1.false (inr (inr (inr c.if5.true))))
 
 div-if6 : tie.Need-nonzero-div-if6
@@ -70,27 +70,27 @@ returns-6 c =
     let k = c.before in
     let w = k.before.before.before.before in
     sym
-    (ranges-past _ _ _ _ _ _ _ _ w.before.before.width.ensures w.before.width2.ensures w.width3.ensures
+    (ranges_past _ _ _ _ _ _ _ _ w.before.before.width.ensures w.before.width2.ensures w.width3.ensures
     (w.before.before.before.if1.false, k.before.before.before.if2.false, k.before.before.if3.false, k.before.if4.false, k.if5.false)
     c.if6.true)
 
 mul_at : tie.Need-overflow-mul-at
-mul_at c = let q = in-room _ _ _ (omega arith) c.if6.false in omega arith
+mul_at c = let q = in_room _ _ _ (omega arith) c.if6.false in omega arith
 
 number-requires : tie.Need-number-requires
 number-requires c κs = search rules
 
 add-number : tie.Need-overflow-add-number
-add-number c = let q = in-room _ _ _ (omega arith) c.before.if6.false in omega arith
+add-number c = let q = in_room _ _ _ (omega arith) c.before.if6.false in omega arith
 
 number-requires-2 : tie.Need-number-requires-2
 number-requires-2 c κs = search rules
 
 add-number-2 : tie.Need-overflow-add-number-2
-add-number-2 c = let q = in-room _ _ _ (omega arith) c.before.before.if6.false in omega arith
+add-number-2 c = let q = in_room _ _ _ (omega arith) c.before.before.if6.false in omega arith
 
 add-number-3 : tie.Need-overflow-add-number-3
-add-number-3 c = let q = in-room _ _ _ (omega arith) c.before.before.if6.false in omega arith
+add-number-3 c = let q = in_room _ _ _ (omega arith) c.before.before.if6.false in omega arith
 
 number-requires-3 : tie.Need-number-requires-3
 number-requires-3 c κs = search rules
@@ -101,7 +101,7 @@ returns-7 c =
     let w = k.before.before.before.before in
     rw (c.before.before.number.ensures, c.before.number2.ensures, c.number3.ensures)
     (sym
-    (ranges-row _ _ _ _ _ _ _ _ w.before.before.width.ensures w.before.width2.ensures w.width3.ensures
+    (ranges_row _ _ _ _ _ _ _ _ w.before.before.width.ensures w.before.width2.ensures w.width3.ensures
     (w.before.before.before.if1.false, k.before.before.before.if2.false, k.before.before.if3.false, k.before.if4.false, k.if5.false)
     c.before.before.before.if6.false))
 

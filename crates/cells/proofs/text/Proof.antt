@@ -1,6 +1,6 @@
 -- `cells::text` meets its contract: the first zero byte is in the value, or there is none. Assumes nothing.
 use mathlib.Core.Path.{sym}
-use Rattle.cells.proofs.TextLaws.{text_in, text-past}
+use Rattle.cells.proofs.TextLaws.{text_in, text_past}
 use borrow.Author.Rules.{rules}
 use Rattle.cells.proofs.text.Statement.{statement}
 use Rattle.cells.proofs.text.Tie as tie
@@ -16,7 +16,7 @@ returns c =
 returns-2 : tie.Need-returns-2
 returns-2 c =
     let e = c.before.byte-from.ensures.is in
-    sym (text-past _ (rw e at c.if1.false))
+    sym (text_past _ (rw e at c.if1.false))
 
 pub text-spec : {M : Type 1} → statement M
 text-spec = tie.close (tie.spec byte-from-requires returns returns-2)

@@ -2,9 +2,9 @@
 use mathlib.Core.Path.{◌≡◌, refl}
 use mathlib.Core.Bool.{false}
 use Rattle.cells.specs.declared.RangeRow.{RangeRow}
-use Rattle.subtree.specs.Subtree.{nodeAt}
-use Rattle.claims.specs.Judging.{badRanges}
-use Rattle.claims.proofs.JudgeLaws.{no_range, first_found, no-soc, no-ranges, readable, met}
+use Rattle.subtree.specs.Subtree.{node_at}
+use Rattle.claims.specs.Judging.{bad_ranges}
+use Rattle.claims.proofs.JudgeLaws.{no_range, first_found, no_soc, no_ranges, readable, met}
 use borrow.Author.Rules.{rules}
 use Rattle.claims.proofs.bad_ranges.Statement.{statement}
 use Rattle.claims.proofs.bad_ranges.Tie as tie
@@ -19,13 +19,13 @@ soc w = (value w).before.before.before.before.before
 -- a first row that is there, or is past the last
 by_row : (w : tie.After-range-row) (r : RangeRow) → w.range-row.result ≡ r → no_range r ≡ false →
     let s = (soc w).before.before.before.before.before.before.args in
-    false ≡ badRanges (nodeAt s.structure.now s.strings.now s.root)
+    false ≡ bad_ranges (node_at s.structure.now s.strings.now s.root)
 by_row w r told h =
     let a = value w in
     let k = soc w in
     readable _ _ _ _ k.before.before.subnode.ensures _ k.soc.given.1 _ a.before.before.getprop.ensures _ _ a.at.given.1
-    _ w.before.part.ensures _ _ _ w.before.before.before.before.address-cells.ensures w.before.before.before.address-cells2.ensures
-    w.before.before.size-cells.ensures _ w.range-row.ensures r told h
+    _ w.before.part.ensures _ _ _ w.before.before.before.before.address_cells_lem.ensures w.before.before.before.address-cells2.ensures
+    w.before.before.size_cells_lem.ensures _ w.range-row.ensures r told h
 
 slice-aggregate-subnode : tie.Need-slice-aggregate-subnode
 slice-aggregate-subnode c = search rules
@@ -40,7 +40,7 @@ enum_told : tie.Need-enum-told
 enum_told c = search rules
 
 returns : tie.Need-returns
-returns c = no-soc _ _ _ _ c.before.before.subnode.ensures c.enum_told.given.1
+returns c = no_soc _ _ _ _ c.before.before.subnode.ensures c.enum_told.given.1
 
 slice-aggregate-getprop : tie.Need-slice-aggregate-getprop
 slice-aggregate-getprop c = search rules
@@ -58,7 +58,7 @@ returns-2 : tie.Need-returns-2
 returns-2 c =
     let g = c.before.before in
     let k = g.before.before.before in
-    no-ranges _ _ _ _ k.before.before.subnode.ensures _ k.soc.given.1 _ g.getprop.ensures c.enum-told2.given.1
+    no_ranges _ _ _ _ k.before.before.subnode.ensures _ k.soc.given.1 _ g.getprop.ensures c.enum-told2.given.1
 
 address-cells-requires : tie.Need-address-cells-requires
 address-cells-requires c κs = search rules
@@ -96,8 +96,8 @@ returns-3 c =
     let a = value w in
     let k = soc w in
     met _ _ _ _ k.before.before.subnode.ensures _ k.soc.given.1 _ a.before.before.getprop.ensures _ _ a.at.given.1
-    _ w.before.part.ensures _ _ _ w.before.before.before.before.address-cells.ensures w.before.before.before.address-cells2.ensures
-    w.before.before.size-cells.ensures _ w.range-row.ensures c.before.before.enum-told3.given.1
+    _ w.before.part.ensures _ _ _ w.before.before.before.before.address_cells_lem.ensures w.before.before.before.address-cells2.ensures
+    w.before.before.size_cells_lem.ensures _ w.range-row.ensures c.before.before.enum-told3.given.1
     _ c.before.first-subnode.ensures _ c.some-child.ensures
 
 returns-4 : tie.Need-returns-4

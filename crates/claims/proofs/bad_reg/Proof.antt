@@ -1,6 +1,6 @@
 -- `bad_reg` meets its contract: by the children of /reserved-memory, where it is there and they count. Assumes nothing.
 use borrow.Author.Tests.{not-true, not-false}
-use Rattle.claims.proofs.JudgeLaws.{first_found, no-reserved, uncounted, counted}
+use Rattle.claims.proofs.JudgeLaws.{first_found, no_reserved, uncounted, counted}
 use borrow.Author.Rules.{rules}
 use Rattle.claims.proofs.bad_reg.Statement.{statement}
 use Rattle.claims.proofs.bad_reg.Tie as tie
@@ -18,7 +18,7 @@ enum_told : tie.Need-enum-told
 enum_told c = search rules
 
 returns : tie.Need-returns
-returns c = no-reserved _ _ _ _ c.before.before.subnode.ensures c.enum_told.given.1
+returns c = no_reserved _ _ _ _ c.before.before.subnode.ensures c.enum_told.given.1
 
 children-count-requires : tie.Need-children-count-requires
 children-count-requires c κs = search rules
@@ -27,7 +27,7 @@ returns-2 : tie.Need-returns-2
 returns-2 c =
     let t = c.before in
     let k = t.before.before in
-    uncounted _ _ _ _ k.before.before.subnode.ensures _ k.node.given.1 _ t.children-count.ensures (not-true _ c.if1.true)
+    uncounted _ _ _ _ k.before.before.subnode.ensures _ k.node.given.1 _ t.children_count_lem.ensures (not-true _ c.if1.true)
 
 first-subnode-requires : tie.Need-first-subnode-requires
 first-subnode-requires c κs = search rules
@@ -48,8 +48,8 @@ returns-3 c =
     let e = g.before in
     let t = e.before in
     let k = t.before.before in
-    counted _ _ _ _ k.before.before.subnode.ensures _ k.node.given.1 _ t.children-count.ensures (not-false _ e.if1.false)
-    _ g.first-subnode.ensures _ _ y.address-cells.ensures c.before.size-cells.ensures _ c.some-child.ensures
+    counted _ _ _ _ k.before.before.subnode.ensures _ k.node.given.1 _ t.children_count_lem.ensures (not-false _ e.if1.false)
+    _ g.first-subnode.ensures _ _ y.address_cells_lem.ensures c.before.size_cells_lem.ensures _ c.some-child.ensures
 
 pub bad-reg-spec : {M : Type 1} → statement M
 bad-reg-spec =

@@ -3,9 +3,9 @@ use mathlib.Core.Path.{◌≡◌}
 use mathlib.Core.Bool.{Bool}
 use borrow.Author.Tests.{not-true, not-false}
 use Rattle.cells.specs.declared.RegRow.{RegRow}
-use Rattle.subtree.specs.Subtree.{nodeAt, propsOf}
-use Rattle.claims.specs.Judging.{childIs}
-use Rattle.claims.proofs.JudgeLaws.{no_reg, someReg, is-without, is-other, is-reserved, is-device}
+use Rattle.subtree.specs.Subtree.{node_at, props_of}
+use Rattle.claims.specs.Judging.{child_is}
+use Rattle.claims.proofs.JudgeLaws.{no_reg, some_reg, is_without, is_other, is_reserved, is_device}
 use borrow.Author.Rules.{rules}
 use Rattle.claims.proofs.child_is.Statement.{statement}
 use Rattle.claims.proofs.child_is.Tie as tie
@@ -14,22 +14,22 @@ use Rattle.claims.proofs.child_is.Tie as tie
 abbrev asked : tie.After-reg-row → Bool
 asked r =
     let s = r.before.before.before.before.before.before.before.before.before.args in
-    childIs s.reserved s.address s.size (propsOf (nodeAt s.structure.now s.strings.now s.child))
+    child_is s.reserved s.address s.size (props_of (node_at s.structure.now s.strings.now s.child))
 
 -- what the row says of a reserved child that counts, and of a device
-by-reserved : (e : tie.Else2) (k : RegRow) → e.before.before.before.reg_row.result ≡ k → no_reg k ≡ asked e.before.before.before
-by-reserved e k told =
+by_reserved : (e : tie.Else2) (k : RegRow) → e.before.before.before.reg_row.result ≡ k → no_reg k ≡ asked e.before.before.before
+by_reserved e k told =
     let s = e.before in
     let r = s.before.before in
     let a = r.before.before.before in
-    is-reserved _ _ _ _ a.before.before.getprop.ensures _ _ _ _ _ a.at.given.1 _ r.before.part.ensures _ r.reg_row.ensures
+    is_reserved _ _ _ _ a.before.before.getprop.ensures _ _ _ _ _ a.at.given.1 _ r.before.part.ensures _ r.reg_row.ensures
     s.before.if1.true _ s.reserved-memory-node-is-available.ensures (not-false _ e.if2.false) k told
 
-by-device : (e : tie.Else1) (k : RegRow) → e.before.reg_row.result ≡ k → someReg k ≡ asked e.before
-by-device e k told =
+by_device : (e : tie.Else1) (k : RegRow) → e.before.reg_row.result ≡ k → some_reg k ≡ asked e.before
+by_device e k told =
     let r = e.before in
     let a = r.before.before.before in
-    is-device _ _ _ _ a.before.before.getprop.ensures _ _ _ _ _ a.at.given.1 _ r.before.part.ensures _ r.reg_row.ensures
+    is_device _ _ _ _ a.before.before.getprop.ensures _ _ _ _ _ a.at.given.1 _ r.before.part.ensures _ r.reg_row.ensures
     e.if1.false k told
 
 slice-aggregate-getprop : tie.Need-slice-aggregate-getprop
@@ -45,7 +45,7 @@ enum_told : tie.Need-enum-told
 enum_told c = search rules
 
 returns : tie.Need-returns
-returns c = is-without _ _ _ _ c.before.before.getprop.ensures _ _ _ c.enum_told.given.1
+returns c = is_without _ _ _ _ c.before.before.getprop.ensures _ _ _ c.enum_told.given.1
 
 part-requires : tie.Need-part-requires
 part-requires c κs = search rules
@@ -61,7 +61,7 @@ returns-2 c =
     let s = c.before in
     let r = s.before.before in
     let k = r.before.before.before in
-    is-other _ _ _ _ k.before.before.getprop.ensures _ _ _ _ _ k.at.given.1 _ r.before.part.ensures _ r.reg_row.ensures
+    is_other _ _ _ _ k.before.before.getprop.ensures _ _ _ _ _ k.at.given.1 _ r.before.part.ensures _ r.reg_row.ensures
     s.before.if1.true _ s.reserved-memory-node-is-available.ensures (not-true _ c.if2.true)
 
 enum-told-2 : tie.Need-enum-told-2
@@ -74,13 +74,13 @@ enum-told-4 : tie.Need-enum-told-4
 enum-told-4 c = search rules
 
 returns-3 : tie.Need-returns-3
-returns-3 c = by-reserved c.before.before _ c.enum-told2.given.1
+returns-3 c = by_reserved c.before.before _ c.enum-told2.given.1
 
 returns-4 : tie.Need-returns-4
-returns-4 c = by-reserved c.before.before _ c.enum-told3.given.1
+returns-4 c = by_reserved c.before.before _ c.enum-told3.given.1
 
 returns-5 : tie.Need-returns-5
-returns-5 c = by-reserved c.before.before _ c.enum-told4.given.1
+returns-5 c = by_reserved c.before.before _ c.enum-told4.given.1
 
 enum-told-5 : tie.Need-enum-told-5
 enum-told-5 c = search rules
@@ -92,13 +92,13 @@ enum-told-7 : tie.Need-enum-told-7
 enum-told-7 c = search rules
 
 returns-6 : tie.Need-returns-6
-returns-6 c = by-device c.before.before _ c.enum-told5.given.1
+returns-6 c = by_device c.before.before _ c.enum-told5.given.1
 
 returns-7 : tie.Need-returns-7
-returns-7 c = by-device c.before.before _ c.enum-told6.given.1
+returns-7 c = by_device c.before.before _ c.enum-told6.given.1
 
 returns-8 : tie.Need-returns-8
-returns-8 c = by-device c.before.before _ c.enum-told7.given.1
+returns-8 c = by_device c.before.before _ c.enum-told7.given.1
 
 pub child-is-spec : {M : Type 1} → statement M
 child-is-spec =

@@ -1,6 +1,6 @@
 -- `child_value` goes by the rule of the parent; of the root's children `interrupt-controller` is asked first. Assumes nothing.
-use Rattle.claims.specs.Values.{childValue}
-use Rattle.claims.proofs.ClaimLaws.{controller, no-controller}
+use Rattle.claims.specs.Values.{child_value}
+use Rattle.claims.proofs.ClaimLaws.{controller, no_controller}
 use borrow.Author.Rules.{rules}
 use Rattle.claims.proofs.child_value.Statement.{statement}
 use Rattle.claims.proofs.child_value.Tie as tie
@@ -45,7 +45,7 @@ returns : tie.Need-returns
 returns c = rw c.before.enum_told.given.1 c.reserved-value.ensures
 
 returns-2 : tie.Need-returns-2
-unfolding childValue
+unfolding child_value
 returns-2 c = rw c.before.before.enum-told2.given.1 c.getprop.ensures
 
 returns-3 : tie.Need-returns-3
@@ -57,7 +57,7 @@ returns-3 c =
 returns-4 : tie.Need-returns-4
 returns-4 c =
     let g = c.before.before in
-    no-controller _ _ _ _ g.getprop2.ensures _ g.before.before.enum-told3.given.1 _ _ c.enum-told5.given.1
+    no_controller _ _ _ _ g.getprop2.ensures _ g.before.before.enum-told3.given.1 _ _ c.enum-told5.given.1
 
 pub child-value-spec : {M : Type 1} → statement M
 child-value-spec =

@@ -3,15 +3,15 @@
 use mathlib.Core.Path.{◌≡◌}
 use Rattle.reserved.specs.declared.Exact.{Exact}
 use Rattle.nodes.specs.declared.Value.TheVariants.{Here}
-use Rattle.nodes.specs.Nav.{propAt}
-use Rattle.subtree.specs.Names.{sizeName, allocRangesName}
-use Rattle.claims.specs.Values.{whereOne, dynamicAt}
-use Rattle.claims.proofs.ClaimLaws.{exact-is}
+use Rattle.nodes.specs.Nav.{prop_at}
+use Rattle.subtree.specs.Names.{size_name, alloc_ranges_name}
+use Rattle.claims.specs.Values.{where_one, dynamic_at}
+use Rattle.claims.proofs.ClaimLaws.{exact_is}
 use borrow.Author.Rules.{rules}
 use Rattle.claims.proofs.dynamic_value.Statement.{statement}
 use Rattle.claims.proofs.dynamic_value.Tie as tie
 
--- where `alloc-ranges` was found, and the start, seen from past what both say together
+-- where `alloc_ranges` was found, and the start, seen from past what both say together
 abbrev found : tie.After-visit-exact-dynamic-reserved-memory-range → tie.After-to
 found x = x.before.before.before.before
 
@@ -23,14 +23,14 @@ by_both : (x : tie.After-visit-exact-dynamic-reserved-memory-range) (k : Exact) 
     let s = (start x).args in
     let b = s.structure.now in
     let n = s.strings.now in
-    whereOne k (Here (found x).to.given.0.0 (found x).to.given.0.1.0) ≡
-    dynamicAt b s.address s.size (propAt b n s.child sizeName) (propAt b n s.child allocRangesName)
+    where_one k (Here (found x).to.given.0.0 (found x).to.given.0.1.0) ≡
+    dynamic_at b s.address s.size (prop_at b n s.child size_name) (prop_at b n s.child alloc_ranges_name)
 by_both x k e =
     let p = x.before.before in
     let t = found x in
     let g = t.before.before in
     let a = g.before.before.before in
-    exact-is _ _ _ _ a.before.before.getprop.ensures _ g.getprop2.ensures _ _ a.at.given.1 _ _ t.to.given.1
+    exact_is _ _ _ _ a.before.before.getprop.ensures _ g.getprop2.ensures _ _ a.at.given.1 _ _ t.to.given.1
     _ p.part.ensures _ x.before.part2.ensures _ _ _ x.visit-exact-dynamic-reserved-memory-range.ensures k e
 
 slice-aggregate-getprop : tie.Need-slice-aggregate-getprop

@@ -1,13 +1,13 @@
 -- `is_qemu_virt` meets its contract: on the build for it, by the string in the root's `model`. Assumes nothing.
 use borrow.Author.Tests.{not-true, not-false}
-use Rattle.claims.specs.Claims.{isVirt}
-use Rattle.claims.proofs.ClaimLaws.{virt-rootless, virt-nameless, virt-by}
+use Rattle.claims.specs.Claims.{is_virt}
+use Rattle.claims.proofs.ClaimLaws.{virt_rootless, virt_nameless, virt_by}
 use borrow.Author.Rules.{rules}
 use Rattle.claims.proofs.is_qemu_virt.Statement.{statement}
 use Rattle.claims.proofs.is_qemu_virt.Tie as tie
 
 returns : tie.Need-returns
-unfolding isVirt
+unfolding is_virt
 returns c = rw (not-true c.before.before.before.args.arm c.if1.true)
 
 slice-aggregate-path-offset : tie.Need-slice-aggregate-path-offset
@@ -25,7 +25,7 @@ enum_told c = search rules
 returns-2 : tie.Need-returns-2
 returns-2 c =
     let p = c.before.before in
-    virt-rootless _ _ _ p.path-offset.ensures _ (not-false _ p.before.before.if1.false) c.enum_told.given.1
+    virt_rootless _ _ _ p.path-offset.ensures _ (not-false _ p.before.before.if1.false) c.enum_told.given.1
 
 slice-aggregate-string-of : tie.Need-slice-aggregate-string-of
 slice-aggregate-string-of c = search rules
@@ -44,7 +44,7 @@ returns-3 c =
     let s = c.before.before in
     let k = s.before.before.before in
     let p = k.before.before in
-    virt-nameless _ _ _ p.path-offset.ensures _ (not-false _ p.before.before.if1.false) _ k.root.given.1 _ s.string-of.ensures
+    virt_nameless _ _ _ p.path-offset.ensures _ (not-false _ p.before.before.if1.false) _ k.root.given.1 _ s.string-of.ensures
     c.enum-told2.given.1
 
 part-requires : tie.Need-part-requires
@@ -63,7 +63,7 @@ returns-4 c =
     let s = m.before.before in
     let k = s.before.before.before in
     let p = k.before.before in
-    virt-by _ _ _ p.path-offset.ensures _ (not-false _ p.before.before.if1.false) _ k.root.given.1 _ s.string-of.ensures
+    virt_by _ _ _ p.path-offset.ensures _ (not-false _ p.before.before.if1.false) _ k.root.given.1 _ s.string-of.ensures
     _ _ m.at.given.1 _ v.part.ensures _ c.holds.ensures
 
 pub is-qemu-virt-spec : {M : Type 1} → statement M

@@ -1,5 +1,5 @@
 -- `lands` goes by the rule of the parent: each arm knows which it is. Assumes nothing.
-use Rattle.claims.specs.Claims.{landsBy}
+use Rattle.claims.specs.Claims.{lands_by}
 use borrow.Author.Rules.{rules}
 use Rattle.claims.proofs.lands.Statement.{statement}
 use Rattle.claims.proofs.lands.Tie as tie
@@ -20,15 +20,15 @@ at-root-requires : tie.Need-at-root-requires
 at-root-requires c κs = search rules
 
 returns : tie.Need-returns
-unfolding landsBy
+unfolding lands_by
 returns c = rw c.enum_told.given.1
 
 returns-2 : tie.Need-returns-2
-unfolding landsBy
+unfolding lands_by
 returns-2 c = rw c.before.enum-told2.given.1 c.get-mmio-address.ensures
 
 returns-3 : tie.Need-returns-3
-unfolding landsBy
+unfolding lands_by
 returns-3 c = rw c.before.enum-told3.given.1 c.at-root.ensures
 
 pub lands-spec : {M : Type 1} → statement M

@@ -2,9 +2,9 @@
 use mathlib.Core.Path.{◌≡◌, sym, ◌∙◌}
 use mathlib.Core.Bool.{true}
 use borrow.Author.Tests.{not-true, not-false}
-use Rattle.subtree.specs.Subtree.{nodeAt, propsOf}
+use Rattle.subtree.specs.Subtree.{node_at, props_of}
 use Rattle.reserved.specs.Reserved.{available}
-use Rattle.claims.specs.Values.{childValue}
+use Rattle.claims.specs.Values.{child_value}
 use borrow.Author.Rules.{rules}
 use Rattle.claims.proofs.reserved_value.Statement.{statement}
 use Rattle.claims.proofs.reserved_value.Tie as tie
@@ -12,7 +12,7 @@ use Rattle.claims.proofs.reserved_value.Tie as tie
 -- a child that counts, as the definition asks it
 counts : (e : tie.Else1) →
     let s = e.before.before.before.before.args in
-    true ≡ available (propsOf (nodeAt s.structure.now s.strings.now s.child))
+    true ≡ available (props_of (node_at s.structure.now s.strings.now s.child))
 counts e =
     let a = e.before.reserved-memory-node-is-available in
     sym (not-false a.result e.if1.false) ∙ a.ensures
@@ -21,7 +21,7 @@ reserved-memory-node-is-available-requires : tie.Need-reserved-memory-node-is-av
 reserved-memory-node-is-available-requires c κs = search rules
 
 returns : tie.Need-returns
-unfolding childValue
+unfolding child_value
 returns c =
     let a = c.before.reserved-memory-node-is-available in
     rw (← a.ensures, not-true a.result c.if1.true)
@@ -42,7 +42,7 @@ dynamic-value-requires : tie.Need-dynamic-value-requires
 dynamic-value-requires c κs = search rules
 
 returns-2 : tie.Need-returns-2
-unfolding childValue
+unfolding child_value
 returns-2 c =
     let k = c.before in
     let g = k.before.before in
@@ -50,7 +50,7 @@ returns-2 c =
     rw (← counts e, ← g.getprop.ensures, k.at.given.1)
 
 returns-3 : tie.Need-returns-3
-unfolding childValue
+unfolding child_value
 returns-3 c =
     let k = c.before in
     let g = k.before.before in

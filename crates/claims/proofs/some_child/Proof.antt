@@ -3,7 +3,7 @@
 use mathlib.Core.Path.{refl}
 use Rattle.fdt.specs.Tree.{count}
 use Rattle.subtree.specs.Subtree.{at}
-use Rattle.claims.proofs.JudgeLaws.{From, none_left, this-is, next-nearer, next-from}
+use Rattle.claims.proofs.JudgeLaws.{From, none_left, this_is, next_nearer, next_from}
 use borrow.Author.Rules.{rules}
 use Rattle.claims.proofs.some_child.Statement.{statement}
 use Rattle.claims.proofs.some_child.Tie as tie
@@ -33,7 +33,7 @@ returns-2 : tie.Need-returns-2 invariant-loop decreases-loop
 returns-2 c =
     let r = c.before in
     let k = r.before.before in
-    this-is _ _ _ _ _ _ _ k.before.before.loop.invariant _ k.child.given.1 _ r.child-is.ensures c.if1.true
+    this_is _ _ _ _ _ _ _ k.before.before.loop.invariant _ k.child.given.1 _ r.child-is.ensures c.if1.true
 
 next-subnode-requires : tie.Need-next-subnode-requires invariant-loop decreases-loop
 next-subnode-requires c κs = search rules
@@ -41,13 +41,13 @@ next-subnode-requires c κs = search rules
 loop-less : tie.Need-loop-smaller invariant-loop decreases-loop
 loop-less c =
     let k = c.before.before.before.before in
-    next-nearer _ _ _ _ _ _ _ k.before.before.loop.invariant _ k.child.given.1 _ c.next-subnode.ensures
+    next_nearer _ _ _ _ _ _ _ k.before.before.loop.invariant _ k.child.given.1 _ c.next-subnode.ensures
 
 loop-again : tie.Need-loop-preserved invariant-loop decreases-loop
 loop-again c =
     let r = c.before.before in
     let k = r.before.before in
-    next-from _ _ _ _ _ _ _ k.before.before.loop.invariant _ k.child.given.1 _ r.child-is.ensures c.before.if1.false
+    next_from _ _ _ _ _ _ _ k.before.before.loop.invariant _ k.child.given.1 _ r.child-is.ensures c.before.if1.false
     _ c.next-subnode.ensures
 
 pub some-child-spec : {M : Type 1} → statement M

@@ -1,7 +1,7 @@
 -- `bench_claims` answers the size of the map with the tree's claims.
 use mathlib.Core.Path.{ap}
 use borrow.Author.Rules.{rules}
-use Rattle.memory.proofs.MapLaws.{blank-made}
+use Rattle.memory.proofs.MapLaws.{blank_made}
 use Rattle.dtb.specs.declared.TreeRegistered.{TreeRegistered}
 use Rattle.claims_bench.proofs.bench_claims.Statement.{statement}
 use Rattle.claims_bench.proofs.bench_claims.Tie as tie
@@ -10,7 +10,7 @@ empty-requires : tie.Need-empty-requires
 empty-requires c κs = search rules
 
 register-devicetree-requires : tie.Need-register-devicetree-requires
-register-devicetree-requires c κs = rw c.empty.ensures (blank-made 4096)
+register-devicetree-requires c κs = rw c.empty.ensures (blank_made 4096)
 
 returns : tie.Need-returns
 returns c =

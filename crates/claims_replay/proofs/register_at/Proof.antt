@@ -1,6 +1,6 @@
 -- `register_at` hands back a map that a caller can register in again.
 use Rattle.page.proofs.Laws.{page}
-use Rattle.memory.proofs.MapLaws.{one-made}
+use Rattle.memory.proofs.MapLaws.{one_made}
 use borrow.Author.Rules.{rules}
 use Rattle.claims_replay.proofs.register_at.Statement.{statement}
 use Rattle.claims_replay.proofs.register_at.Tie as tie
@@ -18,7 +18,7 @@ register-requires : tie.Need-register-requires
 register-requires c κs = search rules
 
 returns : tie.Need-returns
-returns c = one-made 4096 _ _ _ page c.register.ensures c.before.before.before.before.before.requires
+returns c = one_made 4096 _ _ _ page c.register.ensures c.before.before.before.before.before.requires
 
 pub register-at-spec : {M : Type 1} → statement M
 register-at-spec =

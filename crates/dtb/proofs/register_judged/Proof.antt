@@ -3,9 +3,9 @@ use mathlib.Core.Path.{ap, sym}
 use borrow.Author.Rules.{rules}
 use Rattle.memory.specs.declared.Registered.{Registered}
 use Rattle.memory.specs.Map.{left}
-use Rattle.memory.specs.Run.{isDone}
+use Rattle.memory.specs.Run.{is_done}
 use Rattle.memory.proofs.Refusing.{refused}
-use Rattle.dtb.proofs.CallLaws.{settled-done, settled-refused}
+use Rattle.dtb.proofs.CallLaws.{settled_done, settled_refused}
 use Rattle.dtb.proofs.register_judged.Statement.{statement}
 use Rattle.dtb.proofs.register_judged.Tie as tie
 
@@ -19,13 +19,13 @@ returns : tie.Need-returns
 returns c =
     let g = c.before.register-claims-in in
     let r : Registered = left g.result g.new.0 g.new.1.0 g.new.1.1.0 in
-    rw (← g.ensures) (sym (settled-refused _ r (refused g.result.answer c.match.keys2)))
+    rw (← g.ensures) (sym (settled_refused _ r (refused g.result.answer c.match.keys2)))
 
 returns-2 : tie.Need-returns-2
 returns-2 c =
     let g = c.before.before.register-claims-in in
     let r : Registered = left g.result g.new.0 g.new.1.0 g.new.1.1.0 in
-    rw (← g.ensures) (sym (settled-done _ r (ap isDone c.enum_told.given.1)))
+    rw (← g.ensures) (sym (settled_done _ r (ap is_done c.enum_told.given.1)))
 
 pub register-judged-spec : {M : Type 1} → statement M
 register-judged-spec = tie.close (tie.spec register-claims-in-requires enum_told returns returns-2)

@@ -1,7 +1,7 @@
 -- `kind_of` reads the kind that has the number. Each arm of the match cites one law at its kind.
 use native.Mathlib.Omega.{arith}
 use Rattle.entry.specs.declared.BootloaderMemoryKind.TheVariants.{Null, Free, Reclaim, Reserved, Kernel, Device, IdentityMap}
-use Rattle.entry.proofs.KindLaws.{known_at, unknown-at, none_of}
+use Rattle.entry.proofs.KindLaws.{known_at, unknown_at, none_of}
 use Rattle.entry.proofs.kind_of.Statement.{statement}
 use Rattle.entry.proofs.kind_of.Tie as tie
 
@@ -29,7 +29,7 @@ returns-7 c = known_at IdentityMap _ (omega arith)
 returns-8 : tie.Need-returns-8
 returns-8 c =
     let w = c.match.rest in
-    unknown-at _
+    unknown_at _
     (none_of _
     (λ e. w.0.0.0.0.0.0.1 e)
     (λ e. w.0.0.0.0.0.1 e)

@@ -3,7 +3,7 @@ use mathlib.Core.Path.{sym}
 use native.Mathlib.Omega.{arith}
 use borrow.Author.Rules.{rules}
 use Rattle.entry.specs.Claim.{inward, outward}
-use Rattle.entry.proofs.ClaimLaws.{free-inward, other-outward}
+use Rattle.entry.proofs.ClaimLaws.{free_inward, other_outward}
 use Rattle.entry.proofs.round.Statement.{statement}
 use Rattle.entry.proofs.round.Tie as tie
 
@@ -24,7 +24,7 @@ returns : tie.Need-returns
 unfolding inward
 returns c =
     rw (c.before.align-up.ensures, c.align-down.ensures, c.before.before.before.saturating-add.ensures)
-    (sym (free-inward 4096 _ (omega arith)))
+    (sym (free_inward 4096 _ (omega arith)))
 
 -- src/lib.rt:125:16
 align-down-requires-2 : tie.Need-align-down-requires-2
@@ -39,7 +39,7 @@ returns-2 : tie.Need-returns-2
 unfolding outward
 returns-2 c =
     rw (c.before.align-down2.ensures, c.align-up2.ensures, c.before.before.before.saturating-add.ensures)
-    (sym (other-outward 4096 _ (λ e. omega arith)))
+    (sym (other_outward 4096 _ (λ e. omega arith)))
 
 pub round-spec : {M : Type 1} → statement M
 round-spec =

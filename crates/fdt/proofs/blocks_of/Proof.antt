@@ -1,5 +1,5 @@
 -- `fdt::blocks_of` meets its contract: each number is the header's. Assumes nothing.
-use Rattle.fdt.specs.Opening.{blocksOf}
+use Rattle.fdt.specs.Opening.{blocks_of}
 use borrow.Author.Rules.{rules}
 use Rattle.fdt.proofs.blocks_of.Statement.{statement}
 use Rattle.fdt.proofs.blocks_of.Tie as tie
@@ -20,7 +20,7 @@ be32-requires-5 : tie.Need-be32-requires-5
 be32-requires-5 c κs = search rules
 
 returns : tie.Need-returns
-unfolding blocksOf
+unfolding blocks_of
 returns c = let d = c.before in rw (d.before.before.before.be32.ensures.is, d.before.before.be322.ensures.is, d.before.be323.ensures.is, d.be324.ensures.is, c.be325.ensures.is)
 
 pub blocks-of-spec : {M : Type 1} → statement M

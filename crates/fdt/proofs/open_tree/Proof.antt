@@ -2,8 +2,8 @@
 use mathlib.Core.Path.{sym, ◌∙◌}
 use native.Mathlib.Omega.{arith}
 use borrow.Author.Tests.{not-true, not-false}
-use Rattle.fdt.proofs.HeaderLaws.{good-header}
-use Rattle.fdt.proofs.VerdictLaws.{says_none, says-header, says-large, says-judged}
+use Rattle.fdt.proofs.HeaderLaws.{good_header_lem}
+use Rattle.fdt.proofs.VerdictLaws.{says_none, says_header, says_large, says_judged}
 use borrow.Author.Rules.{rules}
 use Rattle.fdt.proofs.open_tree.Statement.{statement}
 use Rattle.fdt.proofs.open_tree.Tie as tie
@@ -15,16 +15,16 @@ good-header-requires : tie.Need-good-header-requires
 good-header-requires c κs = search rules
 
 returns-2 : tie.Need-returns-2
-returns-2 c = says-header _ c.before.before.if1.false (sym c.before.good-header.ensures ∙ not-true _ c.if2.true)
+returns-2 c = says_header _ c.before.before.if1.false (sym c.before.good_header_lem.ensures ∙ not-true _ c.if2.true)
 
 be32-requires : tie.Need-be32-requires
-be32-requires c κs = let g = (good-header _).0 (sym c.before.good-header.ensures ∙ not-false _ c.if2.false) in omega arith
+be32-requires c κs = let g = (good_header_lem _).0 (sym c.before.good_header_lem.ensures ∙ not-false _ c.if2.false) in omega arith
 
 returns-3 : tie.Need-returns-3
-returns-3 c = let d = c.before.before in says-large _ d.before.before.if1.false (sym d.before.good-header.ensures ∙ not-false _ d.if2.false) (omega arith)
+returns-3 c = let d = c.before.before in says_large _ d.before.before.if1.false (sym d.before.good_header_lem.ensures ∙ not-false _ d.if2.false) (omega arith)
 
 blocks-of-requires : tie.Need-blocks-of-requires
-blocks-of-requires c κs = let d = c.before.before in let g = (good-header _).0 (sym d.before.good-header.ensures ∙ not-false _ d.if2.false) in omega arith
+blocks-of-requires c κs = let d = c.before.before in let g = (good_header_lem _).0 (sym d.before.good_header_lem.ensures ∙ not-false _ d.if2.false) in omega arith
 
 part-requires : tie.Need-part-requires
 part-requires c κs = search rules
@@ -49,7 +49,7 @@ returns-4 c =
     let w = c.before.before in
     let k = w.before.before.before.before.before in
     let g = k.before.before.before in
-    says-judged _ g.before.before.if1.false (sym g.before.good-header.ensures ∙ not-false _ g.if2.false) _ _ _ _ _ (omega arith)
+    says_judged _ g.before.before.if1.false (sym g.before.good_header_lem.ensures ∙ not-false _ g.if2.false) _ _ _ _ _ (omega arith)
     k.blocks-of.ensures w.before.before.part.ensures w.before.part2.ensures w.walk.ensures c.enum_told.given.1
 
 returns-5 : tie.Need-returns-5
@@ -57,7 +57,7 @@ returns-5 c =
     let w = c.before.before in
     let k = w.before.before.before.before.before in
     let g = k.before.before.before in
-    says-judged _ g.before.before.if1.false (sym g.before.good-header.ensures ∙ not-false _ g.if2.false) _ _ _ _ _ (omega arith)
+    says_judged _ g.before.before.if1.false (sym g.before.good_header_lem.ensures ∙ not-false _ g.if2.false) _ _ _ _ _ (omega arith)
     k.blocks-of.ensures w.before.before.part.ensures w.before.part2.ensures w.walk.ensures c.enum-told2.given.1
 
 returns-6 : tie.Need-returns-6
@@ -65,7 +65,7 @@ returns-6 c =
     let w = c.before.before in
     let k = w.before.before.before.before.before in
     let g = k.before.before.before in
-    says-judged _ g.before.before.if1.false (sym g.before.good-header.ensures ∙ not-false _ g.if2.false) _ _ _ _ _ (omega arith)
+    says_judged _ g.before.before.if1.false (sym g.before.good_header_lem.ensures ∙ not-false _ g.if2.false) _ _ _ _ _ (omega arith)
     k.blocks-of.ensures w.before.before.part.ensures w.before.part2.ensures w.walk.ensures c.enum-told3.given.1
 
 pub open-tree-spec : {M : Type 1} → statement M

@@ -5,13 +5,13 @@ use Prim.Native.Nat.{ℕ, suc, ◌≤◌, ◌+◌, ◌-◌}
 use native.Mathlib.Omega.{arith}
 use borrow.Author.Rules.{rules}
 use lib.ListN.{length}
-use Rattle.fdt.specs.Walk.{walkAt, walked}
-use Rattle.fdt.proofs.WalkLaws.{step_is, step_less, step-on, step-off}
+use Rattle.fdt.specs.Walk.{walk_at, walked}
+use Rattle.fdt.proofs.WalkLaws.{step_is, step_less, step_on, step_off}
 use Rattle.fdt.proofs.walk.Statement.{statement}
 use Rattle.fdt.proofs.walk.Tie as tie
 
 abbrev invariant-loop : tie.invariant-loop
-invariant-loop b n st₀ st = (f : ℕ) × (length b ≤ st.at + f) × (walked b n ≡ walkAt (suc f) b n st)
+invariant-loop b n st₀ st = (f : ℕ) × (length b ≤ st.at + f) × (walked b n ≡ walk_at (suc f) b n st)
 
 abbrev decreases-loop : tie.decreases-loop
 decreases-loop b n st₀ st = length b - st.at
@@ -42,7 +42,7 @@ loop-again c =
     let l = k.before.before in
     let a = l.before.before.before.args in
     let i = l.loop.invariant in
-    let r = step-on _ _ _ _ (step_is a.structure.now a.strings.now l.loop.st _ _ k.before.token-at.ensures k.stepped.ensures c.before.next.given.1) i.0 i.1 in
+    let r = step_on _ _ _ _ (step_is a.structure.now a.strings.now l.loop.st _ _ k.before.token-at.ensures k.stepped.ensures c.before.next.given.1) i.0 i.1 in
     (r.0, r.1, i.2 ∙ r.2)
 
 enum-known-v : tie.Need-enum-known-v invariant-loop decreases-loop
@@ -54,7 +54,7 @@ returns c =
     let l = k.before.before in
     let a = l.before.before.before.args in
     let i = l.loop.invariant in
-    sym (i.2 ∙ step-off _ _ _ i.0 _ (step_is a.structure.now a.strings.now l.loop.st _ _ k.before.token-at.ensures k.stepped.ensures c.before.v.given.1))
+    sym (i.2 ∙ step_off _ _ _ i.0 _ (step_is a.structure.now a.strings.now l.loop.st _ _ k.before.token-at.ensures k.stepped.ensures c.before.v.given.1))
 
 pub walk-spec : {M : Type 1} → statement M
 walk-spec =

@@ -1,7 +1,7 @@
 -- `figures::put_decimal` meets its contract: the fewest digits that hold a number are its decimal text (DigitsLaws). Assumes nothing.
 use borrow.Author.Rules.{rules}
-use Rattle.figures.proofs.DigitsLaws.{decimal-is}
-use Rattle.figures.proofs.PutLaws.{same-put}
+use Rattle.figures.proofs.DigitsLaws.{decimal_is}
+use Rattle.figures.proofs.PutLaws.{same_put}
 use Rattle.figures.proofs.put_decimal.Statement.{statement}
 use Rattle.figures.proofs.put_decimal.Tie as tie
 
@@ -23,7 +23,7 @@ same_length c = search rules
 returns : tie.Need-returns
 returns c =
     let d = c.before.before.before.before.before in
-    same-put c.before.before.put.ensures (decimal-is (search rules) d.decimal.ensures.1.0 d.decimal.ensures.1.1)
+    same_put c.before.before.put.ensures (decimal_is (search rules) d.decimal.ensures.1.0 d.decimal.ensures.1.1)
 
 pub put-decimal-spec : {M : Type 1} → statement M
 put-decimal-spec =

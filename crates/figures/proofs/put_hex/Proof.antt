@@ -1,7 +1,7 @@
 -- `figures::put_hex` meets its contract: a width of 16 is the whole of the number (DigitsLaws). Assumes nothing.
 use borrow.Author.Rules.{rules}
-use Rattle.figures.proofs.DigitsLaws.{hex-is}
-use Rattle.figures.proofs.PutLaws.{same-put}
+use Rattle.figures.proofs.DigitsLaws.{hex_is}
+use Rattle.figures.proofs.PutLaws.{same_put}
 use Rattle.figures.proofs.put_hex.Statement.{statement}
 use Rattle.figures.proofs.put_hex.Tie as tie
 
@@ -23,7 +23,7 @@ same_length c = search rules
 returns : tie.Need-returns
 returns c =
     let d = c.before.before.before.before.before in
-    same-put c.before.before.put.ensures (hex-is (search rules) d.hex.ensures.1.0 d.hex.ensures.1.1)
+    same_put c.before.before.put.ensures (hex_is (search rules) d.hex.ensures.1.0 d.hex.ensures.1.1)
 
 pub put-hex-spec : {M : Type 1} → statement M
 put-hex-spec =

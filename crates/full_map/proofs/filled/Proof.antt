@@ -4,7 +4,7 @@ use native.Mathlib.Omega.{arith}
 use borrow.Author.Rules.{rules}
 use Rattle.page.proofs.Laws.{page}
 use Rattle.memory.specs.Made.{Made}
-use Rattle.memory.proofs.MapLaws.{one-made, blank-made}
+use Rattle.memory.proofs.MapLaws.{one_made, blank_made}
 use Rattle.full_map.proofs.filled.Statement.{statement}
 use Rattle.full_map.proofs.filled.Tie as tie
 
@@ -18,7 +18,7 @@ empty-requires : tie.Need-empty-requires invariant-loop decreases-loop
 empty-requires c κs = search rules
 
 loop-holds : tie.Need-loop-init invariant-loop decreases-loop
-loop-holds c = (omega arith, rw c.empty.ensures (blank-made 4096))
+loop-holds c = (omega arith, rw c.empty.ensures (blank_made 4096))
 
 mul-register : tie.Need-overflow-mul-register invariant-loop decreases-loop
 mul-register c = search rules
@@ -34,7 +34,7 @@ loop-less c = search rules
 
 loop-again : tie.Need-loop-preserved invariant-loop decreases-loop
 loop-again c =
-    (omega arith, one-made 4096 _ _ _ page c.before.register.ensures c.before.before.before.loop.invariant.1)
+    (omega arith, one_made 4096 _ _ _ page c.before.register.ensures c.before.before.before.loop.invariant.1)
 
 returns : tie.Need-returns invariant-loop decreases-loop
 returns c = search rules

@@ -5,16 +5,16 @@ use native.Mathlib.Omega.{arith}
 use lib.ListN.{length}
 use borrow.Author.Rules.{rules}
 use Rattle.page.proofs.Laws.{page}
-use Rattle.memory.specs.Map.{mapOf}
+use Rattle.memory.specs.Map.{map_of}
 use Rattle.bootloader.specs.List.{claims}
-use Rattle.late_run.specs.Run.{lateAll}
-use Rattle.late_run.proofs.Running.{Running, runs, runs_on, runs-stop, runs-end}
+use Rattle.late_run.specs.Run.{late_all}
+use Rattle.late_run.proofs.Running.{Running, runs, runs_on, runs_stop, runs_end}
 use Rattle.late_run.proofs.claim_all_in.Statement.{statement}
 use Rattle.late_run.proofs.claim_all_in.Tie as tie
 
 abbrev invariant-loop : tie.invariant-loop
 invariant-loop starts₀ ends₀ kinds₀ size slots₀ count list held₀ used₀ n i₀ starts ends kinds slots held used i =
-    Running 4096 list n (lateAll 4096 (mapOf starts₀ ends₀ kinds₀ size) count slots₀ 0 (claims list)) (mapOf starts ends kinds held) used slots (length slots₀) i
+    Running 4096 list n (late_all 4096 (map_of starts₀ ends₀ kinds₀ size) count slots₀ 0 (claims list)) (map_of starts ends kinds held) used slots (length slots₀) i
 
 abbrev decreases-loop : tie.decreases-loop
 decreases-loop starts₀ ends₀ kinds₀ size slots₀ count list held₀ used₀ n i₀ starts ends kinds slots held used i =
@@ -53,7 +53,7 @@ same_length c = omega (arith, c.before.before.before.before.claim-late-in.auto, 
 returns : tie.Need-returns invariant-loop decreases-loop
 returns c =
     let k = c.before.before.before.before in
-    runs-stop k.before.before.before.before.before.before.before.before.before.loop.invariant k.before.before.before.before.before.before.before.before.loop-test.true k.before.before.before.before.before.before.before.le64.ensures.is k.before.before.before.before.before.before.le642.ensures.is k.before.before.before.before.before.le643.ensures.is k.claim-late-in.ensures (λ z. c.if1.true (c.before.number.ensures ∙ z))
+    runs_stop k.before.before.before.before.before.before.before.before.before.loop.invariant k.before.before.before.before.before.before.before.before.loop-test.true k.before.before.before.before.before.before.before.le64.ensures.is k.before.before.before.before.before.before.le642.ensures.is k.before.before.before.before.before.le643.ensures.is k.claim-late-in.ensures (λ z. c.if1.true (c.before.number.ensures ∙ z))
 
 add-i : tie.Need-overflow-add-i invariant-loop decreases-loop
 add-i c = search rules
@@ -70,7 +70,7 @@ same-length-2 : tie.Need-same-length-2 invariant-loop decreases-loop
 same-length-2 c = c.before.loop.invariant.same
 
 returns-2 : tie.Need-returns-2 invariant-loop decreases-loop
-returns-2 c = runs-end c.before.loop.invariant c.loop-test.false
+returns-2 c = runs_end c.before.loop.invariant c.loop-test.false
 
 pub claim-all-in-spec : {M : Type 1} → statement M
 claim-all-in-spec =

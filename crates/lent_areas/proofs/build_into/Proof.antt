@@ -59,8 +59,8 @@ use Rattle.areas.proofs.Built.TheLaws as R'
 use Rattle.lent_areas.specs.declared.MemoryArea.{MemoryArea}
 use Rattle.lent_areas.specs.declared.Row.{Row}
 use Rattle.lent_areas.specs.Row.{BuildsRow}
-use Rattle.lent_areas.proofs.Arrays.{whole-lies, whole-read}
-use Rattle.lent_areas.proofs.Values.{vals, n-vals, l-vals, r-vals}
+use Rattle.lent_areas.proofs.Arrays.{whole_lies, whole_read}
+use Rattle.lent_areas.proofs.Values.{vals, n_vals, l_vals, r_vals}
 use Rattle.lent_areas.specs.contracts.MemoryArea as T
 use Rattle.lent_areas.proofs.MemoryArea.TheLaws as T'
 use Rattle.lent_areas.specs.contracts.Row as S
@@ -81,23 +81,23 @@ Arr = Array T.the_row 512
 abbrev ArrF : RattleType
 ArrF = Array (T.the_field).row 512
 
-abbrev a-vals : List MemoryArea → List Val
-a-vals = array_vals vals
+abbrev a_vals : List MemoryArea → List Val
+a_vals = array_vals vals
 
-abbrev array-ty : Ty
-array-ty = ty_array T'.mir 512
+abbrev array_ty : Ty
+array_ty = ty_array T'.mir 512
 
 abbrev slots : Ty
 slots = slice_ty (ty_ref erased mut (pointee (T.the_row).written))
 
-each-as : (es : List MemoryArea) (us : List Val) → shadow (each MemoryArea (T.the_row).own_val es us) → shadow (each (T.the_field).row.Denot (T.the_field).row.own_val (map (T.the_field).into es) us)
-each-as [] [] p = p
-each-as [] (u ∷ us) p = p
-each-as (e ∷ es) [] p = p
-each-as (e ∷ es) (u ∷ us) p = (p.0, each-as es us p.1)
+each_as : (es : List MemoryArea) (us : List Val) → shadow (each MemoryArea (T.the_row).own_val es us) → shadow (each (T.the_field).row.Denot (T.the_field).row.own_val (map (T.the_field).into es) us)
+each_as [] [] p = p
+each_as [] (u ∷ us) p = p
+each_as (e ∷ es) [] p = p
+each_as (e ∷ es) (u ∷ us) p = (p.0, each_as es us p.1)
 
-arr-as : (es : List MemoryArea) (vs : List Val) → Is Arr es vs → Is ArrF (map (T.the_field).into es) vs
-arr-as es vs p = (p.0, ((p.1.0.0, length-map es (T.the_field).into ∙ p.1.0.1), each-as es p.0 p.1.1))
+arr_as : (es : List MemoryArea) (vs : List Val) → Is Arr es vs → Is ArrF (map (T.the_field).into es) vs
+arr_as es vs p = (p.0, ((p.1.0.0, length-map es (T.the_field).into ∙ p.1.0.1), each_as es p.0 p.1.1))
 
 -- 512 records have room
 room_of : (ys : List MemoryArea) → length ys ≡ 512 → Room T.the_row (length ys)
@@ -114,17 +114,17 @@ Lent 𝓛 mem run = triple_of 𝓛 callee.signature (callee.spec 𝓛 mem run)
 module _ {M : Type 1} {𝓤 : Ura M} (𝓛 : Logic 𝓤) (ys : List MemoryArea) (l : ℕ) where
   open 𝓛 use {H}
 
-  lies_in : Is Arr ys (a-vals ys) → ent 𝓤 (H.at full_share array-ty l 0 (only (a-vals ys))) (sem 𝓛 (cells (mem T.the_row) ys l 0))
+  lies_in : Is Arr ys (a_vals ys) → ent 𝓤 (H.at full_share array_ty l 0 (only (a_vals ys))) (sem 𝓛 (cells (mem T.the_row) ys l 0))
   lies_in is =
-      qed 𝓛 (‵ (fat full_share array-ty l 0 (only (a-vals ys))) ∷ []) ∵ use1 𝓛 (‵ (part_at Arr full_share ys l 0)) (whole-lies 𝓛 T.the_row vals (LL.makes T.the_type T'.the_plain 𝓛) (LL.tells T.the_type T'.the_laws) 512 ys l is) $
+      qed 𝓛 (‵ (fat full_share array_ty l 0 (only (a_vals ys))) ∷ []) ∵ use1 𝓛 (‵ (part_at Arr full_share ys l 0)) (whole_lies 𝓛 T.the_row vals (LL.makes T.the_type T'.the_plain 𝓛) (LL.tells T.the_type T'.the_laws) 512 ys l is) $
       use1 𝓛 (‵ ((arr_parts (shares T.the_row) 512).part full_share ys l 0)) (Array-apart 𝓛 T.the_row full_share tt 512 ys l 0) $ fsplit ! $ drop ! $ by ! (whole_in 𝓛 T.the_row ys l 0)
 
-  lies_out : length ys ≡ 512 → ent 𝓤 (sem 𝓛 (cells (mem T.the_row) ys l 0)) (guard 𝓤 (Is Arr ys (a-vals ys)) (H.at full_share array-ty l 0 (only (a-vals ys))))
+  lies_out : length ys ≡ 512 → ent 𝓤 (sem 𝓛 (cells (mem T.the_row) ys l 0)) (guard 𝓤 (Is Arr ys (a_vals ys)) (H.at full_share array_ty l 0 (only (a_vals ys))))
   lies_out e =
       qed 𝓛 (‵ (cells (mem T.the_row) ys l 0) ∷ []) ∵ use1 𝓛 (‵ (row T.the_row full_share ys l 0)) (whole_out 𝓛 T.the_row ys l 0) $ feq_i ! ℕ (length ys) 512 e $ fjoin ! $
-      use1 𝓛 (‵ (part_at Arr full_share ys l 0)) (Array-whole 𝓛 T.the_row full_share 512 ys l 0) $ by ! (whole-read 𝓛 T.the_row vals (LL.makes T.the_type T'.the_plain 𝓛) (LL.tells T.the_type T'.the_laws) 512 ys l)
+      use1 𝓛 (‵ (part_at Arr full_share ys l 0)) (Array-whole 𝓛 T.the_row full_share 512 ys l 0) $ by ! (whole_read 𝓛 T.the_row vals (LL.makes T.the_type T'.the_plain 𝓛) (LL.tells T.the_type T'.the_laws) 512 ys l)
 
-module _ {M : Type 1} {𝓤 : Ura M} (𝓛 : Logic 𝓤) (at_mem : Memory → SProp 𝓤) (run : Routine → Fun 𝓤) (ys : List MemoryArea) (h : MemoryMap) (low high : Limit) (made : Made 4096 h) (was : Is Arr ys (a-vals ys)) (h-is : Is N.the_row h (n-vals h)) (low-is : Is L.the_row low (l-vals low)) (high_is : Is L.the_row high (l-vals high)) where
+module _ {M : Type 1} {𝓤 : Ura M} (𝓛 : Logic 𝓤) (at_mem : Memory → SProp 𝓤) (run : Routine → Fun 𝓤) (ys : List MemoryArea) (h : MemoryMap) (low high : Limit) (made : Made 4096 h) (was : Is Arr ys (a_vals ys)) (h-is : Is N.the_row h (n_vals h)) (low-is : Is L.the_row low (l_vals low)) (high_is : Is L.the_row high (l_vals high)) where
   open 𝓛 use {H, A}
 
   abbrev Arg : Type 0
@@ -134,7 +134,7 @@ module _ {M : Type 1} {𝓤 : Ura M} (𝓛 : Logic 𝓤) (at_mem : Memory → SP
   x = (ys, (h, (low, (high, tt))))
 
   abbrev at : List Val × (List Val × (List Val × (List Val × Unit {0})))
-  at = (a-vals ys, (n-vals h, (l-vals low, (l-vals high, tt))))
+  at = (a_vals ys, (n_vals h, (l_vals low, (l_vals high, tt))))
 
   len : length ys ≡ 512
   len = was.1.0.1
@@ -149,39 +149,39 @@ module _ {M : Type 1} {𝓤 : Ura M} (𝓛 : Logic 𝓤) (at_mem : Memory → SP
   d r zs = record { areas = zs; answer = r }
 
   abbrev mach : Built → List MemoryArea → Val
-  mach r zs = vstruct (of_list (only (a-vals zs) ∷ only (r-vals r) ∷ []))
+  mach r zs = vstruct (of_list (only (a_vals zs) ∷ only (r_vals r) ∷ []))
 
-  d-is : (r : Built) (zs : List MemoryArea) → Is R.the_row r (r-vals r) → Is Arr zs (a-vals zs) → Is S.the_row (d r zs) (mach r zs ∷ [])
-  d-is r zs r-is is = ((a-vals zs, (r-vals r, tt)), (refl, (arr-as zs (a-vals zs) is, (r-is, tt))))
+  d_is : (r : Built) (zs : List MemoryArea) → Is R.the_row r (r_vals r) → Is Arr zs (a_vals zs) → Is S.the_row (d r zs) (mach r zs ∷ [])
+  d_is r zs r_is is = ((a_vals zs, (r_vals r, tt)), (refl, (arr_as zs (a_vals zs) is, (r_is, tt))))
 
-  exits : (r : Built) (zs : List MemoryArea) → Says r zs → Is R.the_row r (r-vals r) → Is Arr zs (a-vals zs) → ent 𝓤 (sem 𝓛 ftrue) (Post (mach r zs))
-  exits r zs e r-is is =
+  exits : (r : Built) (zs : List MemoryArea) → Says r zs → Is R.the_row r (r_vals r) → Is Arr zs (a_vals zs) → ent 𝓤 (sem 𝓛 ftrue) (Post (mach r zs))
+  exits r zs e r_is is =
       qed 𝓛 (‵ ftrue ∷ []) ∵
       suffices ! _ (ends_at 𝓛 f.ended stayed (f.clauses 𝓛 at_mem run) ((tt, tt, tt, x, at), tt) (mach r zs) (d r zs) (tt, (tt, (tt, (tt, tt)))) (tt, (tt, (tt, (tt, tt))))) $
       says ! e $
-      nothing ! $ owned ! L.the_row (Is L.the_row) (EL.makes L.the_type L'.the_plain 𝓛) high (l-vals high) high_is $ fjoin ! $ owned ! L.the_row (Is L.the_row) (EL.makes L.the_type L'.the_plain 𝓛) low (l-vals low) low-is $ fjoin ! $ owned ! N.the_row (Is N.the_row) (LL.makes N.the_type N'.the_plain 𝓛) h (n-vals h) h-is $ fjoin ! $
-      owned ! Arr (Is Arr) (Array-Makes 𝓛 T.the_row (LL.makes T.the_type T'.the_plain 𝓛) 512) ys (a-vals ys) was $ fjoin ! $ owned ! S.the_row (Is S.the_row) (LL.makes S.the_type S'.the_plain 𝓛) (d r zs) _ (d-is r zs r-is is) $ move ! (2 ∷ 1 ∷ 0 ∷ []) $ done !
+      nothing ! $ owned ! L.the_row (Is L.the_row) (EL.makes L.the_type L'.the_plain 𝓛) high (l_vals high) high_is $ fjoin ! $ owned ! L.the_row (Is L.the_row) (EL.makes L.the_type L'.the_plain 𝓛) low (l_vals low) low-is $ fjoin ! $ owned ! N.the_row (Is N.the_row) (LL.makes N.the_type N'.the_plain 𝓛) h (n_vals h) h-is $ fjoin ! $
+      owned ! Arr (Is Arr) (Array-Makes 𝓛 T.the_row (LL.makes T.the_type T'.the_plain 𝓛) 512) ys (a_vals ys) was $ fjoin ! $ owned ! S.the_row (Is S.the_row) (LL.makes S.the_type S'.the_plain 𝓛) (d r zs) _ (d_is r zs r_is is) $ move ! (2 ∷ 1 ∷ 0 ∷ []) $ done !
 
   -- the row lent from the local at l, for the lifetime ν, under the name γ
   abbrev ref : ℕ → GName → MutBor (List MemoryArea)
   ref l γ = record { ref_ptr = (l, 0); ghost_name = γ; now = ys }
 
-  abbrev s-val : ℕ → Val
-  s-val l = slice_val (l, 0) (length ys)
+  abbrev s_val : ℕ → Val
+  s_val l = slice_val (l, 0) (length ys)
 
   abbrev passed : ℕ → ℕ → GName → (Lent 𝓛 at_mem run).Ghost
-  passed l ν γ = (((ν ∷ [], tt), (full_share, tt), tt, (ref l γ, (h, (low, (high, tt)))), (s-val l ∷ [], (n-vals h, (l-vals low, (l-vals high, tt))))), tt)
+  passed l ν γ = (((ν ∷ [], tt), (full_share, tt), tt, (ref l γ, (h, (low, (high, tt)))), (s_val l ∷ [], (n_vals h, (l_vals low, (l_vals high, tt))))), tt)
 
-  goes_in : (l ν : ℕ) (γ : GName) → ent 𝓤 (sep 𝓤 (A.lft (ν ∷ []) full_share) (sem 𝓛 ((MutSlice (named 0) (ν ∷ []) T.the_row).own_val (ref l γ) (s-val l ∷ [])))) ((Lent 𝓛 at_mem run).pre (passed l ν γ))
+  goes_in : (l ν : ℕ) (γ : GName) → ent 𝓤 (sep 𝓤 (A.lft (ν ∷ []) full_share) (sem 𝓛 ((MutSlice (named 0) (ν ∷ []) T.the_row).own_val (ref l γ) (s_val l ∷ [])))) ((Lent 𝓛 at_mem run).pre (passed l ν γ))
   goes_in l ν γ =
-      qed 𝓛 (‵ (flft (ν ∷ []) full_share) ∷ ‵ ((MutSlice (named 0) (ν ∷ []) T.the_row).own_val (ref l γ) (s-val l ∷ [])) ∷ []) ∵
-      says ! made $ nothing ! $ owned ! L.the_row (Is L.the_row) (EL.makes L.the_type L'.the_plain 𝓛) high (l-vals high) high_is $ fjoin ! $ owned ! L.the_row (Is L.the_row) (EL.makes L.the_type L'.the_plain 𝓛) low (l-vals low) low-is $ fjoin ! $ owned ! N.the_row (Is N.the_row) (LL.makes N.the_type N'.the_plain 𝓛) h (n-vals h) h-is $ fjoin ! $
+      qed 𝓛 (‵ (flft (ν ∷ []) full_share) ∷ ‵ ((MutSlice (named 0) (ν ∷ []) T.the_row).own_val (ref l γ) (s_val l ∷ [])) ∷ []) ∵
+      says ! made $ nothing ! $ owned ! L.the_row (Is L.the_row) (EL.makes L.the_type L'.the_plain 𝓛) high (l_vals high) high_is $ fjoin ! $ owned ! L.the_row (Is L.the_row) (EL.makes L.the_type L'.the_plain 𝓛) low (l_vals low) low-is $ fjoin ! $ owned ! N.the_row (Is N.the_row) (LL.makes N.the_type N'.the_plain 𝓛) h (n_vals h) h-is $ fjoin ! $
       move ! (2 ∷ 0 ∷ []) $ fjoin ! $ nothing ! $ move ! (2 ∷ 0 ∷ []) $ join ! $ done !
 
   module _ (C : Calls 𝓤 H) (Λ : Loops 𝓤 H) (fm : FmC 𝓤 H 𝓛.laws C) (known : Triple 𝓤 (C #lent-areas·build) (Lent 𝓛 at_mem run)) where
-    walk : ent 𝓤 (on_entry 𝓛 f.signature tt tt x at) (WpFn 𝓤 H C Λ code.function (only (a-vals ys) ∷ only (n-vals h) ∷ only (l-vals low) ∷ only (l-vals high) ∷ []) Post)
+    walk : ent 𝓤 (on_entry 𝓛 f.signature tt tt x at) (WpFn 𝓤 H C Λ code.function (only (a_vals ys) ∷ only (n_vals h) ∷ only (l_vals low) ∷ only (l_vals high) ∷ []) Post)
     walk =
-        qed 𝓛 (‵ ftrue ∷ ‵ (owns (Arr ∷ N.the_row ∷ L.the_row ∷ L.the_row ∷ []) x at) ∷ []) ∵ enter ! C Λ code.function (only (a-vals ys) ∷ only (n-vals h) ∷ only (l-vals low) ∷ only (l-vals high) ∷ []) _ $
+        qed 𝓛 (‵ ftrue ∷ ‵ (owns (Arr ∷ N.the_row ∷ L.the_row ∷ L.the_row ∷ []) x at) ∷ []) ∵ enter ! C Λ code.function (only (a_vals ys) ∷ only (n_vals h) ∷ only (l_vals low) ∷ only (l_vals high) ∷ []) _ $
         alloc1 ! (λ l₀. alloc1 ! (λ l₁. alloc1 ! (λ l₂. alloc1 ! (λ l₃. alloc1 ! (λ l₅. alloc1 ! (λ l₅. alloc1 ! (λ l₆. alloc1 ! (λ l₇. alloc1 ! (λ l₈. alloc1 ! (λ l₉. alloc0 ! $ params1 ! $
         pass1 ! (init ! 16 refl ((Array-Lawful 𝓛 T.the_row (LL.lawful T.the_type T'.the_laws 𝓛) 512).typed ys _ was).0) $ pass1 ! (init ! 14 refl ((LL.lawful N.the_type N'.the_laws 𝓛).typed h _ h-is).0) $ pass1 ! (init ! 12 refl ((EL.lawful L.the_type L'.the_laws 𝓛 tt).typed low _ low-is).0) $ pass1 ! (init ! 10 refl ((EL.lawful L.the_type L'.the_laws 𝓛 tt).typed high _ high_is).0) $ pass0 ! $
         assigns ! (of_opd ! (load ! (from ! (stop !)) (look ! 16 refl))) (from ! (stop !)) (init ! 8 refl ((Array-Lawful 𝓛 T.the_row (LL.lawful T.the_type T'.the_laws 𝓛) 512).typed ys _ was).0) $
@@ -190,7 +190,7 @@ module _ {M : Type 1} {𝓤 : Ura M} (𝓛 : Logic 𝓤) (at_mem : Memory → SP
         rewrite ! 2 (λ (c : ℕ). ‵ (fat full_share slots l₈ 0 (slice_val (l₅, 0) c))) (sym len) refl $
         -- the local is lent for a lifetime ν of the call
         move ! (8 ∷ []) $ use1 𝓛 (‵ (cells (mem T.the_row) ys l₅ 0)) (lies_in 𝓛 ys l₅ was) $ lft_new ! tt (λ ν. move ! (1 ∷ []) $
-        use1 𝓛 (later (some (λ (γ : GName). ‵ ((MutSlice (named 0) (ν ∷ []) T.the_row).own_val (ref l₅ γ) (s-val l₅ ∷ [])) ⊛ ‵ (flent (ν ∷ []) (Held T.the_row (length ys) l₅ 0 γ))))) (lends_slice 𝓛 T.the_row (named 0) (ν ∷ []) ys l₅ 0 (room_of ys len)) $ await ! tt $ pick ! (λ γ. split ! $
+        use1 𝓛 (later (some (λ (γ : GName). ‵ ((MutSlice (named 0) (ν ∷ []) T.the_row).own_val (ref l₅ γ) (s_val l₅ ∷ [])) ⊛ ‵ (flent (ν ∷ []) (Held T.the_row (length ys) l₅ 0 γ))))) (lends_slice 𝓛 T.the_row (named 0) (ν ∷ []) ys l₅ 0 (room_of ys len)) $ await ! tt $ pick ! (λ γ. split ! $
         move ! (2 ∷ 0 ∷ []) $ use2 𝓛 (raw ((Lent 𝓛 at_mem run).pre (passed l₅ ν γ))) (goes_in l₅ ν γ) $
         -- [pre; the lender's part; _9; …; _8; …; _7; …; _6; …; that _5 dies; _4; …; _3; …; _2; …; _1; …; room for _0; …]
         calls_at ! fm (Lent 𝓛 at_mem run) known (passed l₅ ν γ) (and_then ! (load ! (from ! (stop !)) (look ! 4 refl)) (and_then ! (load ! (from ! (stop !)) (look ! 15 refl)) (and_then ! (load ! (from ! (stop !)) (look ! 13 refl)) (and_then ! (load ! (from ! (stop !)) (look ! 11 refl)) (no_more !))))) (λ w.
@@ -201,22 +201,22 @@ module _ {M : Type 1} {𝓤 : Ura M} (𝓛 : Logic 𝓤) (at_mem : Memory → SP
         land ! (from ! (stop !)) (init ! 9 refl ((EL.lawful R.the_type R'.the_laws 𝓛 tt).typed r _ is).0) $ rewrite ! 9 (λ (u : Val). ‵ (fat full_share R'.mir l₆ 0 u)) (ap only (EL.tells R.the_type R'.the_laws r (w ∷ []) is)) refl $
         -- the lifetime is ended, and the local is back
         split ! $ lft_end ! tt $ move ! (0 ∷ 3 ∷ 2 ∷ []) $ use3 𝓛 (later (‵ ((MemArr (mem T.the_row) (length ys)).lies zs.0 l₅ 0))) (slice_back 𝓛 T.the_row (ν ∷ []) γ zs.0 (length ys) l₅ 0) $ await ! tt $ fsplit ! $ drop ! $
-        use1 𝓛 (given (Is Arr zs.0 (a-vals zs.0)) (‵ (fat full_share array-ty l₅ 0 (only (a-vals zs.0))))) (lies_out 𝓛 zs.0 l₅ (l ∙ len)) $ learn ! (λ now-is.
+        use1 𝓛 (given (Is Arr zs.0 (a_vals zs.0)) (‵ (fat full_share array_ty l₅ 0 (only (a_vals zs.0))))) (lies_out 𝓛 zs.0 l₅ (l ∙ len)) $ learn ! (λ now-is.
         -- [_5; true; _9; …; _8; …; _7; …; _6; …; that _5 dies; _4; …; _3; …; _2; …; _1; …; room for _0; …]
         assigns ! (of_opd ! (load ! (from ! (stop !)) (look ! 0 refl))) (from ! (stop !)) (init ! 2 refl ((Array-Lawful 𝓛 T.the_row (LL.lawful T.the_type T'.the_laws 𝓛) 512).typed zs.0 _ now-is).0) $
-        assigns ! (agg ! (and_then ! (load ! (from ! (stop !)) (look ! 2 refl)) (and_then ! (load ! (from ! (stop !)) (look ! 8 refl)) (no_more !)))) (from ! (stop !)) (init ! 19 refl ((LL.lawful S.the_type S'.the_laws 𝓛).typed (d r zs.0) _ (d-is r zs.0 (r-is r w is) now-is)).0) $
+        assigns ! (agg ! (and_then ! (load ! (from ! (stop !)) (look ! 2 refl)) (and_then ! (load ! (from ! (stop !)) (look ! 8 refl)) (no_more !)))) (from ! (stop !)) (init ! 19 refl ((LL.lawful S.the_type S'.the_laws 𝓛).typed (d r zs.0) _ (d_is r zs.0 (r_is r w is) now-is)).0) $
         returns ! (look ! 19 refl) $ forget ! 0 refl $ forget ! 2 refl $ forget ! 4 refl $ forget ! 6 refl $ forget ! 8 refl $ forget ! 11 refl $ forget ! 13 refl $ forget ! 15 refl $ forget ! 17 refl $ forget ! 19 refl $
         move ! (19 ∷ 20 ∷ []) $ free1 ! $ move ! (17 ∷ 18 ∷ []) $ free1 ! $ move ! (15 ∷ 16 ∷ []) $ free1 ! $ move ! (13 ∷ 14 ∷ []) $ free1 ! $ move ! (11 ∷ 12 ∷ []) $ free1 ! $ move ! (0 ∷ 10 ∷ []) $ free1 ! $ move ! (7 ∷ 8 ∷ []) $ free1 ! $ move ! (5 ∷ 6 ∷ []) $ free1 ! $ move ! (3 ∷ 4 ∷ []) $ free1 ! $ move ! (1 ∷ 2 ∷ []) $ free1 ! $ free0 ! $
-        keep ! (0 ∷ []) $ by ! (exits r zs.0 e (r-is r w is) now-is))))))))))))))))))))
+        keep ! (0 ∷ []) $ by ! (exits r zs.0 e (r_is r w is) now-is))))))))))))))))))))
       where
-        r-is : (r : Built) (w : Val) → Is R.the_row r (w ∷ []) → Is R.the_row r (r-vals r)
-        r-is r w is = subst (Is R.the_row r) (EL.tells R.the_type R'.the_laws r (w ∷ []) is) is
+        r_is : (r : Built) (w : Val) → Is R.the_row r (w ∷ []) → Is R.the_row r (r_vals r)
+        r_is r w is = subst (Is R.the_row r) (EL.tells R.the_type R'.the_laws r (w ∷ []) is) is
 
 module _ {M : Type 1} {𝓤 : Ura M} (𝓛 : Logic 𝓤) (mem : Memory → SProp 𝓤) (run : Routine → Fun 𝓤) where
   open 𝓛 use {H}
 
-  f-walks : (C : Calls 𝓤 H) (Λ : Loops 𝓤 H) → FmC 𝓤 H 𝓛.laws C → Triple 𝓤 (C #lent-areas·build) (Lent 𝓛 mem run) → Walks 𝓛 f.ended stayed (WpFn 𝓤 H C Λ code.function) (f.clauses 𝓛 mem run)
-  f-walks C Λ fm known = walked 𝓛 f.ended stayed (f.clauses 𝓛 mem run) (WpFn 𝓤 H C Λ code.function) (λ κs. (a-vals, (n-vals, (l-vals, (l-vals, tt))))) (λ κs. (Array-Tells T.the_row vals (LL.tells T.the_type T'.the_laws) 512, (LL.tells N.the_type N'.the_laws, (EL.tells L.the_type L'.the_laws, (EL.tells L.the_type L'.the_laws, tt)))))
+  f_walks : (C : Calls 𝓤 H) (Λ : Loops 𝓤 H) → FmC 𝓤 H 𝓛.laws C → Triple 𝓤 (C #lent-areas·build) (Lent 𝓛 mem run) → Walks 𝓛 f.ended stayed (WpFn 𝓤 H C Λ code.function) (f.clauses 𝓛 mem run)
+  f_walks C Λ fm known = walked 𝓛 f.ended stayed (f.clauses 𝓛 mem run) (WpFn 𝓤 H C Λ code.function) (λ κs. (a_vals, (n_vals, (l_vals, (l_vals, tt))))) (λ κs. (Array-Tells T.the_row vals (LL.tells T.the_type T'.the_laws) 512, (LL.tells N.the_type N'.the_laws, (EL.tells L.the_type L'.the_laws, (EL.tells L.the_type L'.the_laws, tt)))))
       (λ κs qs bounds a g are. needs 𝓤 (Made 4096 a.1.0) _ (λ made.
       walk 𝓛 mem run a.0 a.1.0 a.1.1.0 a.1.1.1.0 made are.0 are.1.0 are.1.1.0 are.1.1.1.0 C Λ fm known))
 
@@ -225,7 +225,7 @@ module _ {M : Type 1} {𝓤 : Ura M} (𝓛 : Logic 𝓤) (mem : Memory → SProp
 
 f_meets : {M : Type 1} {𝓤 : Ura M} (𝓛 : Logic 𝓤) → (mem : Memory → SProp 𝓤) (run : Routine → Fun 𝓤) (𝓣 : Tables 𝓤 𝓛.H) → Triple 𝓤 (𝓣.C #lent-areas·build) (Lent 𝓛 mem run)
     → Meets 𝓛 f.signature (WpFn 𝓤 𝓛.H 𝓣.C 𝓣.Λ code.function) (f.spec 𝓛 mem run)
-f_meets {𝓤 = 𝓤} 𝓛 mem run 𝓣 known = walk_Meets 𝓛 f.ended stayed (goes 𝓛 mem run) (f.clauses 𝓛 mem run) (WpFn 𝓤 𝓛.H 𝓣.C 𝓣.Λ code.function) (WpFn-mono 𝓤 𝓛.H 𝓛.laws 𝓣 code.function) (f-walks 𝓛 mem run 𝓣.C 𝓣.Λ (fm_of 𝓤 𝓛.H 𝓛.laws 𝓣) known)
+f_meets {𝓤 = 𝓤} 𝓛 mem run 𝓣 known = walk_Meets 𝓛 f.ended stayed (goes 𝓛 mem run) (f.clauses 𝓛 mem run) (WpFn 𝓤 𝓛.H 𝓣.C 𝓣.Λ code.function) (WpFn-mono 𝓤 𝓛.H 𝓛.laws 𝓣 code.function) (f_walks 𝓛 mem run 𝓣.C 𝓣.Λ (fm_of 𝓤 𝓛.H 𝓛.laws 𝓣) known)
 
 pub build-into-spec : {M : Type 1} → stated.statement M
 unfolding code.routine tables_of

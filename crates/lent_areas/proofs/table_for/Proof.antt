@@ -3,7 +3,7 @@ use mathlib.Core.Path.{sym, ◌∙◌}
 use Prim.Native.Nat.{ℕ}
 use lib.ListN.{length-replicate}
 use borrow.Author.Rules.{rules}
-use Rattle.lent_areas.proofs.RowLaws.{few-areas, never-refused, refuses, finishes}
+use Rattle.lent_areas.proofs.RowLaws.{few_areas, never_refused, refuses, finishes}
 use Rattle.lent_areas.proofs.table_for.Statement.{statement}
 use Rattle.lent_areas.proofs.table_for.Tie as tie
 
@@ -22,17 +22,17 @@ enum-known-n c = search rules
 returns : tie.Need-returns
 returns c =
     let k = c.before.before.before.before.before in
-    refuses _ (few-areas k.before.before.requires _ _) _ (length-replicate {A = ℕ} 1024 0) (sym c.before.before.n.given.1 ∙ k.build.ensures.answer) _ c.if1.true
+    refuses _ (few_areas k.before.before.requires _ _) _ (length-replicate {A = ℕ} 1024 0) (sym c.before.before.n.given.1 ∙ k.build.ensures.answer) _ c.if1.true
 
 returns-2 : tie.Need-returns-2
 returns-2 c =
     let k = c.before.before.before in
-    absurd (never-refused _ (few-areas k.before.before.requires _ _) _ (length-replicate {A = ℕ} 1024 0) (sym c.enum_told.given.1 ∙ k.build.ensures.answer))
+    absurd (never_refused _ (few_areas k.before.before.requires _ _) _ (length-replicate {A = ℕ} 1024 0) (sym c.enum_told.given.1 ∙ k.build.ensures.answer))
 
 returns-3 : tie.Need-returns-3
 returns-3 c =
     let k = c.before.before.before.before.before in
-    finishes _ (few-areas k.before.before.requires _ _) _ (length-replicate {A = ℕ} 1024 0) (sym c.before.before.n.given.1 ∙ k.build.ensures.answer) c.if1.false k.build.ensures.table
+    finishes _ (few_areas k.before.before.requires _ _) _ (length-replicate {A = ℕ} 1024 0) (sym c.before.before.n.given.1 ∙ k.build.ensures.answer) c.if1.false k.build.ensures.table
 
 pub table-for-spec : {M : Type 1} → statement M
 table-for-spec =

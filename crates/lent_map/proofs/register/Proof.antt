@@ -58,8 +58,8 @@ use Rattle.memory.specs.contracts.MemoryMap.register as callee
 use Rattle.memory.proofs.MemoryMap.register.Symbol as callee-def
 use Rattle.memory.proofs.MemoryMap.register.Symbol.{name as #memory·MemoryMap·register}
 use Rattle.memory.proofs.MemoryMap.register.Met as callee-thm
-use Rattle.lent_map.proofs.Lent.{map-vals, answer-vals, map_of, answer-of, map-fits, answer-fits, result_fits, number, number_fits, Numbers, numbers, local, leave}
-use Rattle.lent_map.proofs.Parts.{apart, together, result-apart, column_fits, size_fits, behind, within, stores, gathers}
+use Rattle.lent_map.proofs.Lent.{map_vals, answer_vals, map_of_lem, answer_of_lem, map_fits, answer_fits, result_fits, number, number_fits, Numbers, numbers, local, leave}
+use Rattle.lent_map.proofs.Parts.{apart, together, result_apart, column_fits, size_fits, behind, within, stores, gathers}
 use Rattle.lent_map.specs.contracts.register.Key.{name as #lent-map·register}
 use Rattle.lent_map.specs.contracts.register as f
 use Rattle.lent_map.proofs.register.Statement as stated
@@ -91,11 +91,11 @@ module _ {M : Type 1} {𝓤 : Ura M} (𝓛 : Logic 𝓤) (at_mem : Memory → SP
   Says i j l r = r ≡ registered 4096 m (claim (num i) (num j) (num l))
 
   -- the exit, where base, size and kind were passed in this order: the answer is the result's, and the borrow stands at the result's map
-  exits : (r : Registered) → Says 2 3 4 r → Is Ans.the_row r.answer (answer-vals r.answer)
-      → ent 𝓤 (sep 𝓤 (A.obs γ ((Map.the_row).coded.code r.map)) (sep 𝓤 (A.bor κ (Body (mem Map.the_row) b o γ)) (A.lft κ q))) (Post (only (answer-vals r.answer)))
+  exits : (r : Registered) → Says 2 3 4 r → Is Ans.the_row r.answer (answer_vals r.answer)
+      → ent 𝓤 (sep 𝓤 (A.obs γ ((Map.the_row).coded.code r.map)) (sep 𝓤 (A.bor κ (Body (mem Map.the_row) b o γ)) (A.lft κ q))) (Post (only (answer_vals r.answer)))
   exits r e is =
       qed 𝓛 (‵ (fobs γ ((Map.the_row).coded.code r.map)) ∷ ‵ (fbor κ (Body (mem Map.the_row) b o γ)) ∷ ‵ (flft κ q) ∷ []) ∵
-      suffices ! _ (ends_at 𝓛 f.ended stayed (f.clauses 𝓛 at_mem run) (((κ, tt), (q, tt), tt, x, at), tt) (only (answer-vals r.answer)) r.answer (r.map, (tt, (tt, (tt, tt)))) (tt, (tt, (tt, (tt, tt))))) $
+      suffices ! _ (ends_at 𝓛 f.ended stayed (f.clauses 𝓛 at_mem run) (((κ, tt), (q, tt), tt, x, at), tt) (only (answer_vals r.answer)) r.answer (r.map, (tt, (tt, (tt, tt)))) (tt, (tt, (tt, (tt, tt))))) $
       says ! (ap (λ (d : Registered). d.answer) e, ap (λ (d : Registered). d.map) e) $
       nothing ! $ move ! (3 ∷ 0 ∷ []) $ join ! $ frame ! $ feq_i ! (List Val) (vptr b o ∷ []) (vptr b o ∷ []) refl $ fjoin3 ! $
       use0 𝓛 (‵ (Numbers num 2 3 4)) (numbers 𝓛 fits 2 3 4) $ move ! (1 ∷ 0 ∷ []) $ fjoin ! $
@@ -103,11 +103,11 @@ module _ {M : Type 1} {𝓤 : Ura M} (𝓛 : Logic 𝓤) (at_mem : Memory → SP
 
   -- what the registration by value asks, and what it says, whichever numbers it is passed: the walk finds them in the code
   abbrev passed : ℕ → ℕ → ℕ → (Callee 𝓛 at_mem run).Ghost
-  passed i j l = ((tt, tt, tt, (m, (num i, (num j, (num l, tt)))), (map-vals m, (vint w64 (num i) ∷ [], (vint w64 (num j) ∷ [], (vint w64 (num l) ∷ [], tt))))), tt)
+  passed i j l = ((tt, tt, tt, (m, (num i, (num j, (num l, tt)))), (map_vals m, (vint w64 (num i) ∷ [], (vint w64 (num j) ∷ [], (vint w64 (num l) ∷ [], tt))))), tt)
 
-  goes_in : (i j l : ℕ) → ent 𝓤 (sem 𝓛 ((Map.the_row).own_val m (map-vals m))) ((Callee 𝓛 at_mem run).pre (passed i j l))
+  goes_in : (i j l : ℕ) → ent 𝓤 (sem 𝓛 ((Map.the_row).own_val m (map_vals m))) ((Callee 𝓛 at_mem run).pre (passed i j l))
   goes_in i j l =
-      qed 𝓛 (‵ ((Map.the_row).own_val m (map-vals m)) ∷ []) ∵ says ! made $
+      qed 𝓛 (‵ ((Map.the_row).own_val m (map_vals m)) ∷ []) ∵ says ! made $
       use0 𝓛 (‵ (Numbers num i j l)) (numbers 𝓛 fits i j l) $ move ! (1 ∷ 0 ∷ []) $ fjoin ! $ nothing ! $ done !
 
   abbrev Ensured : ℕ → ℕ → ℕ → Registered → SProp 𝓤
@@ -125,9 +125,9 @@ module _ {M : Type 1} {𝓤 : Ura M} (𝓛 : Logic 𝓤) (at_mem : Memory → SP
         alloc1 ! (λ l₀. alloc1 ! (λ l₁. alloc1 ! (λ l₂. alloc1 ! (λ l₃. alloc1 ! (λ l₄. alloc1 ! (λ l₅. alloc1 ! (λ l₆. alloc1 ! (λ l₇. alloc1 ! (λ l₈. alloc1 ! (λ l₉. alloc1 ! (λ l₁₀. alloc0 ! $ params1 ! $
         pass1 ! (init ! 18 refl (tt, tt)) $ pass1 ! (init ! 16 refl (tt, record { fits = fits 2 })) $ pass1 ! (init ! 14 refl (tt, record { fits = fits 3 })) $ pass1 ! (init ! 12 refl (tt, record { fits = fits 4 })) $ pass0 ! $
         -- the borrow is opened
-        move ! (22 ∷ 23 ∷ 24 ∷ []) $ opens ! tt Map.the_row {h = m} b o (λ vs. spelt ! Map.the_row (Is Map.the_row) (shows 𝓛 Map.the_row) map-vals (LL.tells Map.the_type Map'.the_laws) full_share m vs b o $
-        use1 𝓛 (‵ (fat full_share Map'.mir b o (only (map-vals m)))) (𝓛.laws.raw_at full_share Map'.mir b o (only (map-vals m))) $
-        rewrite ! 0 (λ (u : Val). ‵ (fat full_share Map'.mir b o u)) (apart m) refl $ move ! (1 ∷ []) $ peeks ! Map.the_row (Is Map.the_row) (shows 𝓛 Map.the_row) m (map-vals m) (λ was. move ! (1 ∷ 0 ∷ []) $
+        move ! (22 ∷ 23 ∷ 24 ∷ []) $ opens ! tt Map.the_row {h = m} b o (λ vs. spelt ! Map.the_row (Is Map.the_row) (shows 𝓛 Map.the_row) map_vals (LL.tells Map.the_type Map'.the_laws) full_share m vs b o $
+        use1 𝓛 (‵ (fat full_share Map'.mir b o (only (map_vals m)))) (𝓛.laws.raw_at full_share Map'.mir b o (only (map_vals m))) $
+        rewrite ! 0 (λ (u : Val). ‵ (fat full_share Map'.mir b o u)) (apart m) refl $ move ! (1 ∷ []) $ peeks ! Map.the_row (Is Map.the_row) (shows 𝓛 Map.the_row) m (map_vals m) (λ was. move ! (1 ∷ 0 ∷ []) $
         -- [the map's cell; what the map owns; the open borrow; obs; auth; _10; …; _9; …; _8; …; _7; …; _6; …; _5; …; _4; …; _3; …; _2; …; _1; …; room for _0; …]
         -- _7 = (*_1).starts;  _8 = (*_1).ends;  _9 = (*_1).kinds;  _10 = (*_1).size
         assigns ! (of_opd ! (behind ! 25 0 refl refl refl)) (from ! (stop !)) (init ! 11 refl (column_fits 𝓛 m was _)) $
@@ -135,15 +135,15 @@ module _ {M : Type 1} {𝓤 : Ura M} (𝓛 : Logic 𝓤) (at_mem : Memory → SP
         assigns ! (of_opd ! (behind ! 25 0 refl refl refl)) (from ! (stop !)) (init ! 7 refl (column_fits 𝓛 m was _)) $
         assigns ! (of_opd ! (behind ! 25 0 refl refl refl)) (from ! (stop !)) (init ! 5 refl (tt, record { fits = size_fits m was })) $
         -- _5 = MemoryMap { _7, _8, _9, _10 }, which is the map
-        assigns ! (gathers ! m _ _ _ (and_then ! (local ! 25 refl) (and_then ! (local ! 25 refl) (and_then ! (local ! 25 refl) (and_then ! (local ! 25 refl) (no_more !))))) refl) (from ! (stop !)) (init ! 15 refl (map-fits 𝓛 m _ was)) $
+        assigns ! (gathers ! m _ _ _ (and_then ! (local ! 25 refl) (and_then ! (local ! 25 refl) (and_then ! (local ! 25 refl) (and_then ! (local ! 25 refl) (no_more !))))) refl) (from ! (stop !)) (init ! 15 refl (map_fits 𝓛 m _ was)) $
         -- _6 = MemoryMap::register(_5, _2, _3, _4)
         move ! (1 ∷ []) $ use1 𝓛 (raw ((Callee 𝓛 at_mem run).pre (passed _ _ _))) (goes_in _ _ _) $
         calls_at ! fm (Callee 𝓛 at_mem run) known (passed _ _ _) (and_then ! (local ! 25 refl) (and_then ! (local ! 25 refl) (and_then ! (local ! 25 refl) (and_then ! (local ! 25 refl) (no_more !))))) (λ w.
         use1 𝓛 (later (some (λ (r : Registered). (‵ ftrue ⊛ ‵ ((Result.the_row).own_val r (w ∷ []))) ⊛ raw (Ensured _ _ _ r)))) (id⊢ 𝓤 _) $ await ! tt $ pick ! (λ r.
         split ! $ move ! (1 ∷ []) $ use1 𝓛 (raw (fact 𝓤 (Says _ _ _ r))) (said _ _ _ r) $ heard ! (Says _ _ _ r) (λ e. split ! $ drop ! $ peeks ! Result.the_row (Is Result.the_row) (shows 𝓛 Result.the_row) r (w ∷ []) (λ is.
         -- [what the result owns; the map's cell; the open borrow; obs; auth; _10; …]
-        land ! (from ! (stop !)) (init ! 13 refl (result_fits 𝓛 r _ is)) $ rewrite ! 13 (λ (u : Val). ‵ (fat full_share Result'.mir l₆ 0 u)) (ap only (LL.tells Result.the_type Result'.the_laws r (w ∷ []) is) ∙ result-apart r) refl $
-        let next : Is Map.the_row r.map (map-vals r.map) = map_of r w is in
+        land ! (from ! (stop !)) (init ! 13 refl (result_fits 𝓛 r _ is)) $ rewrite ! 13 (λ (u : Val). ‵ (fat full_share Result'.mir l₆ 0 u)) (ap only (LL.tells Result.the_type Result'.the_laws r (w ∷ []) is) ∙ result_apart r) refl $
+        let next : Is Map.the_row r.map (map_vals r.map) = map_of_lem r w is in
         -- (*_1).starts = _6.map.starts;  (*_1).ends = _6.map.ends;  (*_1).kinds = _6.map.kinds;  (*_1).size = _6.map.size: it is the result's map
         stores ! 25 1 (of_opd ! (within ! 13 refl (sub ! 0 refl (whole !)) refl)) refl refl refl (column_fits 𝓛 r.map next _) $
         stores ! 25 1 (of_opd ! (within ! 13 refl (sub ! 0 refl (whole !)) refl)) refl refl refl (column_fits 𝓛 r.map next _) $
@@ -151,20 +151,20 @@ module _ {M : Type 1} {𝓤 : Ura M} (𝓛 : Logic 𝓤) (at_mem : Memory → SP
         stores ! 25 1 (of_opd ! (within ! 13 refl (sub ! 0 refl (whole !)) refl)) refl refl refl (tt, record { fits = size_fits r.map next }) $
         rewrite ! 1 (λ (u : Val). ‵ (fat full_share Map'.mir b o u)) (together r.map _ _ _ refl) refl $
         -- _0 = _6.answer
-        assigns ! (of_opd ! (load ! (from ! (fld ! refl (stop !))) (look_in ! 13 (sub ! 1 refl (whole !))))) (from ! (stop !)) (init ! 25 refl (answer-fits 𝓛 r.answer _ (answer-of r w is))) $
+        assigns ! (of_opd ! (load ! (from ! (fld ! refl (stop !))) (look_in ! 13 (sub ! 1 refl (whole !))))) (from ! (stop !)) (init ! 25 refl (answer_fits 𝓛 r.answer _ (answer_of_lem r w is))) $
         -- the borrow is closed
-        drop ! $ use1 𝓛 (‵ (cell_at full_share (Map.the_row).mir (map-vals r.map) b o)) (𝓛.laws.at_raw full_share Map'.mir b o (only (map-vals r.map))) $
-        owned ! Map.the_row (Is Map.the_row) (LL.makes Map.the_type Map'.the_plain 𝓛) r.map _ next $ move ! (1 ∷ 0 ∷ []) $ closes ! tt Map.the_row r.map (map-vals r.map) b o $
+        drop ! $ use1 𝓛 (‵ (cell_at full_share (Map.the_row).mir (map_vals r.map) b o)) (𝓛.laws.at_raw full_share Map'.mir b o (only (map_vals r.map))) $
+        owned ! Map.the_row (Is Map.the_row) (LL.makes Map.the_type Map'.the_plain 𝓛) r.map _ next $ move ! (1 ∷ 0 ∷ []) $ closes ! tt Map.the_row r.map (map_vals r.map) b o $
         -- [obs; the borrow; the token; _10; …; _9; …; _8; …; _7; …; _6; …; _5; …; _4; …; _3; …; _2; …; _1; …; _0; …]
         returns ! (look ! 23 refl) $ leave ! 23 23 refl refl $ leave ! 21 21 refl refl $ leave ! 19 19 refl refl $ leave ! 17 17 refl refl $ leave ! 15 15 refl refl $ leave ! 13 13 refl refl $ leave ! 11 11 refl refl $ leave ! 9 9 refl refl $ leave ! 7 7 refl refl $ leave ! 5 5 refl refl $ leave ! 3 3 refl refl $ free0 ! $
-        keep ! (0 ∷ 1 ∷ 2 ∷ []) $ by ! (exits r e (answer-of r w is)))))))))))))))))))
+        keep ! (0 ∷ 1 ∷ 2 ∷ []) $ by ! (exits r e (answer_of_lem r w is)))))))))))))))))))
 
 -- the walk at each choice of what the contract binds, and from it the contract
 module _ {M : Type 1} {𝓤 : Ura M} (𝓛 : Logic 𝓤) (mem : Memory → SProp 𝓤) (run : Routine → Fun 𝓤) where
   open 𝓛 use {H}
 
-  f-walks : (C : Calls 𝓤 H) (Λ : Loops 𝓤 H) → FmC 𝓤 H 𝓛.laws C → Triple 𝓤 (C #memory·MemoryMap·register) (Callee 𝓛 mem run) → Walks 𝓛 f.ended stayed (WpFn 𝓤 H C Λ code.function) (f.clauses 𝓛 mem run)
-  f-walks C Λ fm known = walked 𝓛 f.ended stayed (f.clauses 𝓛 mem run) (WpFn 𝓤 H C Λ code.function) (λ κs. (mut_vals, (uint_vals w64, (uint_vals w64, (uint_vals w64, tt))))) (λ κs. (mut_Tells (named 0) κs.0 Map.the_row, (uint_Tells w64, (uint_Tells w64, (uint_Tells w64, tt)))))
+  f_walks : (C : Calls 𝓤 H) (Λ : Loops 𝓤 H) → FmC 𝓤 H 𝓛.laws C → Triple 𝓤 (C #memory·MemoryMap·register) (Callee 𝓛 mem run) → Walks 𝓛 f.ended stayed (WpFn 𝓤 H C Λ code.function) (f.clauses 𝓛 mem run)
+  f_walks C Λ fm known = walked 𝓛 f.ended stayed (f.clauses 𝓛 mem run) (WpFn 𝓤 H C Λ code.function) (λ κs. (mut_vals, (uint_vals w64, (uint_vals w64, (uint_vals w64, tt))))) (λ κs. (mut_Tells (named 0) κs.0 Map.the_row, (uint_Tells w64, (uint_Tells w64, (uint_Tells w64, tt)))))
       (λ κs qs bounds a g are. needs 𝓤 (Made 4096 a.0.now) _ (λ made. walk 𝓛 mem run κs.0 qs.0 a.0.ref_ptr.0 a.0.ref_ptr.1 a.0.ghost_name a.0.now (number a.1.0 a.1.1.0 a.1.1.1.0) (number_fits are.1.0.1 are.1.1.0.1 are.1.1.1.0.1) made C Λ fm known))
 
   goes : AllGo 𝓛 1 (f.signature).params (f.ended).kept stayed
@@ -176,5 +176,5 @@ register-spec 𝓤 𝓛 𝓜 𝓡 =
     entered 𝓤 𝓛.H (triple_of 𝓛 f.signature (f.spec 𝓛 𝓜.mem 𝓡.run))
     (tables 𝓤 𝓛.H 𝓜 𝓡 code.env).C (tables 𝓤 𝓛.H 𝓜 𝓡 code.env).Λ #lent-map·register code.function (code.unfolded 𝓤 𝓛.H 𝓜 𝓡)
     (walk_Meets 𝓛 f.ended stayed (goes 𝓛 𝓜.mem 𝓡.run) (f.clauses 𝓛 𝓜.mem 𝓡.run) _ (WpFn-mono 𝓤 𝓛.H 𝓛.laws (tables_of 𝓤 𝓛.H 𝓜 (tables 𝓤 𝓛.H 𝓜 𝓡 code.env)) code.function)
-    (f-walks 𝓛 𝓜.mem 𝓡.run _ _ (fm_of 𝓤 𝓛.H 𝓛.laws (tables_of 𝓤 𝓛.H 𝓜 (tables 𝓤 𝓛.H 𝓜 𝓡 code.env)))
+    (f_walks 𝓛 𝓜.mem 𝓡.run _ _ (fm_of 𝓤 𝓛.H 𝓛.laws (tables_of 𝓤 𝓛.H 𝓜 (tables 𝓤 𝓛.H 𝓜 𝓡 code.env)))
     (cited 𝓤 𝓛.H (Callee 𝓛 𝓜.mem 𝓡.run) 𝓜 𝓡 code.env #memory·MemoryMap·register callee-def.routine code.calls-memory::MemoryMap::register (callee-thm.met 𝓤 𝓛 𝓜 𝓡))))

@@ -1,7 +1,7 @@
 -- `lent_table::clear` meets its contract (Moving). The measure is what is left. Assumes nothing.
 use Prim.Native.Nat.{◌-◌}
 use Rattle.lent_table.specs.Steps.{Cleared}
-use Rattle.lent_table.proofs.Moving.{Going, goes, clears-on, clears-end}
+use Rattle.lent_table.proofs.Moving.{Going, goes, clears_on, clears_end}
 use borrow.Author.Rules.{rules}
 use Rattle.lent_table.proofs.clear.Statement.{statement}
 use Rattle.lent_table.proofs.clear.Tie as tie
@@ -28,13 +28,13 @@ loop-less : tie.Need-loop-smaller invariant-loop decreases-loop
 loop-less c = search rules
 
 loop-again : tie.Need-loop-preserved invariant-loop decreases-loop
-loop-again c = clears-on c.before.loop.invariant c.loop-test.true
+loop-again c = clears_on c.before.loop.invariant c.loop-test.true
 
 same_length : tie.Need-same-length invariant-loop decreases-loop
 same_length c = c.before.loop.invariant.size
 
 returns : tie.Need-returns invariant-loop decreases-loop
-returns c = clears-end c.before.loop.invariant c.loop-test.false
+returns c = clears_end c.before.loop.invariant c.loop-test.false
 
 pub clear_spec : {M : Type 1} → statement M
 clear_spec =

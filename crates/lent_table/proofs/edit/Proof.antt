@@ -3,17 +3,17 @@ use mathlib.Core.Path.{sym, ◌∙◌}
 use native.Mathlib.Omega.{arith}
 use lib.ListN.{length-set}
 use borrow.Author.Tests.{leb-true, leb-false}
-use Rattle.lent_table.proofs.Finding.{takes-nothing, takes_none}
-use Rattle.lent_table.proofs.Editing.{edited-not, edits-before, edits-after, edits-inside, edits-left, edits-full, edits-splits, edits-two}
+use Rattle.lent_table.proofs.Finding.{takes_nothing, takes_none}
+use Rattle.lent_table.proofs.Editing.{edited_not, edits_before, edits_after, edits_inside, edits_left, edits_full, edits_splits, edits_two}
 use borrow.Author.Rules.{rules}
 use Rattle.lent_table.proofs.edit.Statement.{statement}
 use Rattle.lent_table.proofs.edit.Tie as tie
 
 returns : tie.Need-returns
-returns c = edited-not _ _ _ (takes-nothing _ _ _ c.if1.true)
+returns c = edited_not _ _ _ (takes_nothing _ _ _ c.if1.true)
 
 returns-2 : tie.Need-returns-2
-returns-2 c = edited-not _ _ _ (takes_none _ _ _ c.if2.true)
+returns-2 c = edited_not _ _ _ (takes_none _ _ _ c.if2.true)
 
 past-requires : tie.Need-past-requires
 past-requires c κs = search rules
@@ -22,7 +22,7 @@ same_length : tie.Need-same-length
 same_length c = search rules
 
 returns-3 : tie.Need-returns-3
-returns-3 c = edits-before (record { some = c.before.before.before.before.if1.false; room = c.before.before.before.if2.false }) c.before.past.ensures c.if3.true
+returns-3 c = edits_before (record { some = c.before.before.before.before.if1.false; room = c.before.before.before.if2.false }) c.before.past.ensures c.if3.true
 
 add-base : tie.Need-overflow-add-base
 add-base c = search rules
@@ -37,7 +37,7 @@ same-length-2 : tie.Need-same-length-2
 same-length-2 c = search rules
 
 returns-4 : tie.Need-returns-4
-returns-4 c = edits-after (record { some = c.before.before.before.before.before.before.if1.false; room = c.before.before.before.before.before.if2.false }) c.before.before.before.past.ensures c.before.before.if3.false c.if4.true
+returns-4 c = edits_after (record { some = c.before.before.before.before.before.before.if1.false; room = c.before.before.before.before.before.if2.false }) c.before.before.before.past.ensures c.before.before.if3.false c.if4.true
 
 cut-rest-requires : tie.Need-cut-rest-requires
 cut-rest-requires c κs = search rules
@@ -46,7 +46,7 @@ same-length-3 : tie.Need-same-length-3
 same-length-3 c = search rules
 
 returns-5 : tie.Need-returns-5
-returns-5 c = edits-inside (record { some = c.before.before.before.before.before.before.before.before.before.before.before.if1.false; room = c.before.before.before.before.before.before.before.before.before.before.if2.false }) c.before.before.before.before.before.before.before.before.past.ensures c.before.before.before.before.before.before.before.if3.false c.before.before.before.before.before.if4.false c.before.before.before.before.if5.true _ _ c.before.before.cut-rest.ensures
+returns-5 c = edits_inside (record { some = c.before.before.before.before.before.before.before.before.before.before.before.if1.false; room = c.before.before.before.before.before.before.before.before.before.before.if2.false }) c.before.before.before.before.before.before.before.before.past.ensures c.before.before.before.before.before.before.before.if3.false c.before.before.before.before.before.if4.false c.before.before.before.before.if5.true _ _ c.before.before.cut-rest.ensures
 
 add-size : tie.Need-overflow-add-size
 add-size c = search rules
@@ -88,16 +88,16 @@ same-length-4 : tie.Need-same-length-4
 same-length-4 c = omega (arith, simp length-set at c.before.before.cut-rest2.auto.0)
 
 returns-6 : tie.Need-returns-6
-returns-6 c = edits-left (record { some = c.before.before.before.before.before.before.before.before.before.before.before.before.before.before.if1.false; room = c.before.before.before.before.before.before.before.before.before.before.before.before.before.if2.false }) c.before.before.before.before.before.before.before.before.before.before.before.past.ensures c.before.before.before.before.before.before.before.before.before.before.if3.false c.before.before.before.before.before.before.before.if5.false (leb-true _ _ (sym c.before.before.before.before.before.ends_by.ensures ∙ c.before.before.before.before.if6.true)) _ _ c.before.before.cut-rest2.ensures
+returns-6 c = edits_left (record { some = c.before.before.before.before.before.before.before.before.before.before.before.before.before.before.if1.false; room = c.before.before.before.before.before.before.before.before.before.before.before.before.before.if2.false }) c.before.before.before.before.before.before.before.before.before.before.before.past.ensures c.before.before.before.before.before.before.before.before.before.before.if3.false c.before.before.before.before.before.before.before.if5.false (leb-true _ _ (sym c.before.before.before.before.before.ends_by.ensures ∙ c.before.before.before.before.if6.true)) _ _ c.before.before.cut-rest2.ensures
 
 same-length-5 : tie.Need-same-length-5
 same-length-5 c = search rules
 
 returns-7 : tie.Need-returns-7
-returns-7 c = edits-full (record { some = c.before.before.before.before.before.before.before.before.before.before.before.if1.false; room = c.before.before.before.before.before.before.before.before.before.before.if2.false }) c.before.before.before.before.before.before.before.before.past.ensures c.before.before.before.before.before.before.before.if3.false c.before.before.before.before.if5.false (leb-false _ _ (sym c.before.before.ends_by.ensures ∙ c.before.if6.false)) c.if7.true
+returns-7 c = edits_full (record { some = c.before.before.before.before.before.before.before.before.before.before.before.if1.false; room = c.before.before.before.before.before.before.before.before.before.before.if2.false }) c.before.before.before.before.before.before.before.before.past.ensures c.before.before.before.before.before.before.before.if3.false c.before.before.before.before.if5.false (leb-false _ _ (sym c.before.before.ends_by.ensures ∙ c.before.if6.false)) c.if7.true
 
 split-at-requires : tie.Need-split-at-requires
-split-at-requires c κs = edits-splits (record { some = c.before.before.before.before.before.before.before.before.before.before.before.before.if1.false; room = c.before.before.before.before.before.before.before.before.before.before.before.if2.false }) c.before.before.before.before.before.before.before.before.before.past.ensures c.before.before.before.before.before.before.before.before.if3.false c.before.before.before.before.before.if5.false (leb-false _ _ (sym c.before.before.before.ends_by.ensures ∙ c.before.before.if6.false)) c.before.if7.false
+split-at-requires c κs = edits_splits (record { some = c.before.before.before.before.before.before.before.before.before.before.before.before.if1.false; room = c.before.before.before.before.before.before.before.before.before.before.before.if2.false }) c.before.before.before.before.before.before.before.before.before.past.ensures c.before.before.before.before.before.before.before.before.if3.false c.before.before.before.before.before.if5.false (leb-false _ _ (sym c.before.before.before.ends_by.ensures ∙ c.before.before.if6.false)) c.before.if7.false
 
 add-result : tie.Need-overflow-add-result
 add-result c = search rules
@@ -106,7 +106,7 @@ same-length-6 : tie.Need-same-length-6
 same-length-6 c = search rules
 
 returns-8 : tie.Need-returns-8
-returns-8 c = edits-two (record { some = c.before.before.before.before.before.before.before.before.before.before.before.before.before.before.before.if1.false; room = c.before.before.before.before.before.before.before.before.before.before.before.before.before.before.if2.false }) c.before.before.before.before.before.before.before.before.before.before.before.before.past.ensures c.before.before.before.before.before.before.before.before.before.before.before.if3.false c.before.before.before.before.before.before.before.before.if5.false (leb-false _ _ (sym c.before.before.before.before.before.before.ends_by.ensures ∙ c.before.before.before.before.before.if6.false)) c.before.before.before.before.if7.false _ c.before.before.split_at.ensures
+returns-8 c = edits_two (record { some = c.before.before.before.before.before.before.before.before.before.before.before.before.before.before.before.if1.false; room = c.before.before.before.before.before.before.before.before.before.before.before.before.before.before.if2.false }) c.before.before.before.before.before.before.before.before.before.before.before.before.past.ensures c.before.before.before.before.before.before.before.before.before.before.before.if3.false c.before.before.before.before.before.before.before.before.if5.false (leb-false _ _ (sym c.before.before.before.before.before.before.ends_by.ensures ∙ c.before.before.before.before.before.if6.false)) c.before.before.before.before.if7.false _ c.before.before.split_at.ensures
 
 pub edit-spec : {M : Type 1} → statement M
 edit-spec =

@@ -4,8 +4,8 @@ use native.Mathlib.Omega.{arith}
 use mathlib.Core.Path.{sym, ◌∙◌}
 use borrow.Author.Tests.{not-true, not-false}
 use Rattle.page.specs.Round.{top}
-use Rattle.lent_table.proofs.TableLaws.{area-says}
-use Rattle.lent_table.proofs.Judging.{Judging, table-short, judges, judges-bad, judges-on, judges-end}
+use Rattle.lent_table.proofs.TableLaws.{area_says}
+use Rattle.lent_table.proofs.Judging.{Judging, table_short, judges, judges_bad, judges_on, judges_end}
 use borrow.Author.Rules.{rules}
 use Rattle.lent_table.proofs.good_table.Statement.{statement}
 use Rattle.lent_table.proofs.good_table.Tie as tie
@@ -17,7 +17,7 @@ abbrev decreases-loop : tie.decreases-loop
 decreases-loop slots n least₀ k₀ least k = n - k
 
 returns : tie.Need-returns invariant-loop decreases-loop
-returns c = table-short _ _ _ c.if1.true
+returns c = table_short _ _ _ c.if1.true
 
 loop-holds : tie.Need-loop-init invariant-loop decreases-loop
 loop-holds c = judges _ _ _ c.if1.false
@@ -47,15 +47,15 @@ good-area-requires : tie.Need-good-area-requires invariant-loop decreases-loop
 good-area-requires c κs = search rules
 
 returns-2 : tie.Need-returns-2 invariant-loop decreases-loop
-returns-2 c = judges-bad c.before.before.before.before.before.loop.invariant c.before.before.before.before.loop-test.true (sym c.before.good-area.ensures ∙ not-true _ c.if2.true)
+returns-2 c = judges_bad c.before.before.before.before.before.loop.invariant c.before.before.before.before.loop-test.true (sym c.before.good-area.ensures ∙ not-true _ c.if2.true)
 
 add-least : tie.Need-overflow-add-least invariant-loop decreases-loop
 unfolding top
-add-least c = omega (arith, (area-says _ _ _ (sym c.before.good-area.ensures ∙ not-false _ c.if2.false)).pages.low)
+add-least c = omega (arith, (area_says _ _ _ (sym c.before.good-area.ensures ∙ not-false _ c.if2.false)).pages.low)
 
 add-least-2 : tie.Need-overflow-add-least-2 invariant-loop decreases-loop
 unfolding top
-add-least-2 c = omega (arith, (area-says _ _ _ (sym c.before.good-area.ensures ∙ not-false _ c.if2.false)).pages.low)
+add-least-2 c = omega (arith, (area_says _ _ _ (sym c.before.good-area.ensures ∙ not-false _ c.if2.false)).pages.low)
 
 add-k : tie.Need-overflow-add-k invariant-loop decreases-loop
 add-k c = search rules
@@ -64,10 +64,10 @@ loop-less : tie.Need-loop-smaller invariant-loop decreases-loop
 loop-less c = search rules
 
 loop-again : tie.Need-loop-preserved invariant-loop decreases-loop
-loop-again c = judges-on c.before.before.before.before.before.loop.invariant c.before.before.before.before.loop-test.true (sym c.before.good-area.ensures ∙ not-false _ c.if2.false)
+loop-again c = judges_on c.before.before.before.before.before.loop.invariant c.before.before.before.before.loop-test.true (sym c.before.good-area.ensures ∙ not-false _ c.if2.false)
 
 returns-3 : tie.Need-returns-3 invariant-loop decreases-loop
-returns-3 c = judges-end c.before.loop.invariant c.loop-test.false
+returns-3 c = judges_end c.before.loop.invariant c.loop-test.false
 
 pub good-table-spec : {M : Type 1} → statement M
 good-table-spec =

@@ -3,7 +3,7 @@ use Prim.Native.Nat.{◌-◌, ◌≤◌}
 use native.Mathlib.Omega.{arith}
 use lib.ListN.{length-set}
 use Rattle.lent_table.specs.Steps.{Inserted}
-use Rattle.lent_table.proofs.Moving.{Going, goes, inserts-on, inserts-end}
+use Rattle.lent_table.proofs.Moving.{Going, goes, inserts_on, inserts_end}
 use borrow.Author.Rules.{rules}
 use Rattle.lent_table.proofs.insert_area.Statement.{statement}
 use Rattle.lent_table.proofs.insert_area.Tie as tie
@@ -66,7 +66,7 @@ loop-less : tie.Need-loop-smaller invariant-loop decreases-loop
 loop-less c = search rules
 
 loop-again : tie.Need-loop-preserved invariant-loop decreases-loop
-loop-again c = (omega arith, inserts-on _ _ c.before.before.before.loop.invariant.1 c.before.before.loop-test.true)
+loop-again c = (omega arith, inserts_on _ _ c.before.before.before.loop.invariant.1 c.before.before.loop-test.true)
 
 add-slots-4 : tie.Need-overflow-add-slots-4 invariant-loop decreases-loop
 add-slots-4 c = search rules
@@ -93,7 +93,7 @@ same_length : tie.Need-same-length invariant-loop decreases-loop
 same_length c = simp length-set c.before.loop.invariant.1.size
 
 returns : tie.Need-returns invariant-loop decreases-loop
-returns c = inserts-end _ _ c.before.loop.invariant.1 c.loop-test.false
+returns c = inserts_end _ _ c.before.loop.invariant.1 c.loop-test.false
 
 pub insert-area-spec : {M : Type 1} → statement M
 insert-area-spec =

@@ -2,7 +2,7 @@
 use Prim.Native.Nat.{◌-◌}
 use mathlib.Core.Path.{sym, ◌∙◌}
 use borrow.Author.Tests.{not-true, not-false}
-use Rattle.lent_table.proofs.Judging.{Passing, passes, passes_on, passes-stop, passes-end}
+use Rattle.lent_table.proofs.Judging.{Passing, passes, passes_on, passes_stop, passes_end}
 use borrow.Author.Rules.{rules}
 use Rattle.lent_table.proofs.past.Statement.{statement}
 use Rattle.lent_table.proofs.past.Tie as tie
@@ -41,7 +41,7 @@ ends-by-requires : tie.Need-ends-by-requires invariant-loop decreases-loop
 ends-by-requires c κs = search rules
 
 returns : tie.Need-returns invariant-loop decreases-loop
-returns c = passes-stop c.before.before.before.before.before.loop.invariant c.before.before.before.before.loop-test.true (sym c.before.ends_by.ensures ∙ not-true _ c.if1.true)
+returns c = passes_stop c.before.before.before.before.before.loop.invariant c.before.before.before.before.loop-test.true (sym c.before.ends_by.ensures ∙ not-true _ c.if1.true)
 
 add-k : tie.Need-overflow-add-k invariant-loop decreases-loop
 add-k c = search rules
@@ -53,7 +53,7 @@ loop-again : tie.Need-loop-preserved invariant-loop decreases-loop
 loop-again c = passes_on c.before.before.before.before.before.loop.invariant c.before.before.before.before.loop-test.true (sym c.before.ends_by.ensures ∙ not-false _ c.if1.false)
 
 returns-2 : tie.Need-returns-2 invariant-loop decreases-loop
-returns-2 c = passes-end c.before.loop.invariant c.loop-test.false
+returns-2 c = passes_end c.before.loop.invariant c.loop-test.false
 
 pub past-spec : {M : Type 1} → statement M
 past-spec =

@@ -3,7 +3,7 @@ use Prim.Native.Nat.{◌-◌, ◌≤◌}
 use native.Mathlib.Omega.{arith}
 use lib.ListN.{length-set}
 use Rattle.lent_table.specs.Steps.{Slid}
-use Rattle.lent_table.proofs.Moving.{Going, goes, slides-on, slides-end}
+use Rattle.lent_table.proofs.Moving.{Going, goes, slides_on, slides_end}
 use borrow.Author.Rules.{rules}
 use Rattle.lent_table.proofs.slide.Statement.{statement}
 use Rattle.lent_table.proofs.slide.Tie as tie
@@ -45,13 +45,13 @@ loop-less : tie.Need-loop-smaller invariant-loop decreases-loop
 loop-less c = search rules
 
 loop-again : tie.Need-loop-preserved invariant-loop decreases-loop
-loop-again c = (omega arith, slides-on _ c.before.before.loop.invariant.1 c.before.loop-test.true)
+loop-again c = (omega arith, slides_on _ c.before.before.loop.invariant.1 c.before.loop-test.true)
 
 same_length : tie.Need-same-length invariant-loop decreases-loop
 same_length c = c.before.loop.invariant.1.size
 
 returns : tie.Need-returns invariant-loop decreases-loop
-returns c = slides-end _ c.before.loop.invariant.1 c.loop-test.false
+returns c = slides_end _ c.before.loop.invariant.1 c.loop-test.false
 
 pub slide-spec : {M : Type 1} → statement M
 slide-spec =

@@ -1,13 +1,13 @@
 -- `lent_table::trim_front` meets its contract (Trimming). Assumes nothing.
 use native.Mathlib.Omega.{arith}
 use lib.ListN.{length-set}
-use Rattle.lent_table.proofs.Trimming.{trimmed-end, trimmed-same, trimmed-set}
+use Rattle.lent_table.proofs.Trimming.{trimmed_end, trimmed_same, trimmed_set}
 use borrow.Author.Rules.{rules}
 use Rattle.lent_table.proofs.trim_front.Statement.{statement}
 use Rattle.lent_table.proofs.trim_front.Tie as tie
 
 returns : tie.Need-returns
-returns c = trimmed-end _ _ _ _ c.if1.true
+returns c = trimmed_end _ _ _ _ c.if1.true
 
 add-base : tie.Need-overflow-add-base
 add-base c = search rules
@@ -19,7 +19,7 @@ slice-read-base : tie.Need-slice-read-base
 slice-read-base c = search rules
 
 returns-2 : tie.Need-returns-2
-returns-2 c = trimmed-same _ _ _ _ c.if2.true
+returns-2 c = trimmed_same _ _ _ _ c.if2.true
 
 add-size : tie.Need-overflow-add-size
 add-size c = search rules
@@ -64,7 +64,7 @@ same_length : tie.Need-same-length
 same_length c = search rules
 
 returns-3 : tie.Need-returns-3
-returns-3 c = trimmed-set _ _ _ _ c.before.before.before.if1.false c.before.if2.false
+returns-3 c = trimmed_set _ _ _ _ c.before.before.before.if1.false c.before.if2.false
 
 pub trim-front-spec : {M : Type 1} → statement M
 trim-front-spec =

@@ -6,14 +6,14 @@ use lib.Dec.{eqb}
 use borrow.Author.Rules.{rules}
 use borrow.Author.Tests.{eq-eqb, ne_eqb}
 use Rattle.memory.specs.Map.{at, slots_of}
-use Rattle.listing.specs.Listing.{entriesFrom, first, first_of}
-use Rattle.listing.proofs.ListingLaws.{first_done, first-takes, first-leaves}
+use Rattle.listing.specs.Listing.{entries_from, first, first_of}
+use Rattle.listing.proofs.ListingLaws.{first_done, first_takes, first_leaves}
 use Rattle.listing.proofs.kernel.Statement.{statement}
 use Rattle.listing.proofs.kernel.Tie as tie
 
 abbrev invariant-loop : tie.invariant-loop
 invariant-loop map i₀ i =
-    (i ≤ map.size) × (first (λ e. eqb e.kind 0x100) (entriesFrom (slots_of map) (map.size - i) i) ≡ first_of 0x100 map)
+    (i ≤ map.size) × (first (λ e. eqb e.kind 0x100) (entries_from (slots_of map) (map.size - i) i) ≡ first_of 0x100 map)
 
 abbrev decreases-loop : tie.decreases-loop
 decreases-loop map i₀ i = map.size - i
@@ -47,7 +47,7 @@ returns : tie.Need-returns invariant-loop decreases-loop
 unfolding at
 returns c =
     let k = c.before.before.before.before in
-    sym (first-takes _ _ _ _ k.loop-test.true (eq-eqb _ _ c.before.before.if1.true)) ∙ k.before.loop.invariant.1
+    sym (first_takes _ _ _ _ k.loop-test.true (eq-eqb _ _ c.before.before.if1.true)) ∙ k.before.loop.invariant.1
 
 add-i : tie.Need-overflow-add-i invariant-loop decreases-loop
 add-i c = search rules
@@ -59,7 +59,7 @@ loop-again : tie.Need-loop-preserved invariant-loop decreases-loop
 unfolding at
 loop-again c =
     let k = c.before.before in
-    (omega arith, sym (first-leaves _ _ _ _ k.loop-test.true (ne_eqb _ _ c.if1.false)) ∙ k.before.loop.invariant.1)
+    (omega arith, sym (first_leaves _ _ _ _ k.loop-test.true (ne_eqb _ _ c.if1.false)) ∙ k.before.loop.invariant.1)
 
 returns-2 : tie.Need-returns-2 invariant-loop decreases-loop
 returns-2 c = sym (first_done _ _ _ _ c.loop-test.false) ∙ c.before.loop.invariant.1

@@ -5,7 +5,7 @@ use lib.ListN.{length}
 use borrow.Author.Rules.{rules}
 use Rattle.memory.specs.Map.{Slots, at, put, slots_of, refilled, blank}
 use Rattle.listing.specs.Listing.{held, wants, those, laid, holding, picked}
-use Rattle.listing.proofs.ListingLaws.{Picking, picking-begins, picking-takes, picking-leaves, picking-ends}
+use Rattle.listing.proofs.ListingLaws.{Picking, picking_begins, picking_takes, picking_leaves, picking_ends}
 use Rattle.listing.proofs.pick.Statement.{statement}
 use Rattle.listing.proofs.pick.Tie as tie
 
@@ -22,7 +22,7 @@ empty-requires : tie.Need-empty-requires invariant-loop decreases-loop
 empty-requires c κs = search rules
 
 loop-holds : tie.Need-loop-init invariant-loop decreases-loop
-loop-holds c = rw c.empty.ensures (picking-begins _ _ _ (slots_of blank))
+loop-holds c = rw c.empty.ensures (picking_begins _ _ _ (slots_of blank))
 
 mul-is-wanted : tie.Need-overflow-mul-is-wanted invariant-loop decreases-loop
 mul-is-wanted c = search rules
@@ -83,7 +83,7 @@ unfolding at put
 loop-again c =
     let k = c.before.before.before in
     let l = k.before.before.before.before.loop in
-    picking-takes _ _ _ _ _ _ _ _ l.invariant k.before.before.before.loop-test.true (sym k.before.is-wanted.ensures ∙ k.if1.true)
+    picking_takes _ _ _ _ _ _ _ _ l.invariant k.before.before.before.loop-test.true (sym k.before.is-wanted.ensures ∙ k.if1.true)
 
 add-i-2 : tie.Need-overflow-add-i-2 invariant-loop decreases-loop
 add-i-2 c = search rules
@@ -95,12 +95,12 @@ loop-again-2 : tie.Need-loop-preserved-2 invariant-loop decreases-loop
 unfolding at
 loop-again-2 c =
     let k = c.before.before.before in
-    picking-leaves _ _ _ _ _ _ _ _ k.before.loop.invariant k.loop-test.true (sym c.before.is-wanted.ensures ∙ c.if1.false)
+    picking_leaves _ _ _ _ _ _ _ _ k.before.loop.invariant k.loop-test.true (sym c.before.is-wanted.ensures ∙ c.if1.false)
 
 returns : tie.Need-returns invariant-loop decreases-loop
 unfolding picked holding
 returns c =
-    let e = picking-ends _ _ _ _ _ _ _ _ c.before.loop.invariant c.loop-test.false in
+    let e = picking_ends _ _ _ _ _ _ _ _ c.before.loop.invariant c.loop-test.false in
     sym (ap₂ (λ (l : Slots) (n : ℕ). refilled blank l n) e.0 e.1)
 
 pub pick_spec : {M : Type 1} → statement M

@@ -1,7 +1,7 @@
 -- `map_numbers::copy` copies 512 numbers: so far it has copied k of them. The measure is what is left. Assumes nothing.
 use Prim.Native.Nat.{◌-◌}
 use borrow.Author.Rules.{rules}
-use Rattle.map_numbers.proofs.Copying.{Copying, copies, copies-on, copies-end}
+use Rattle.map_numbers.proofs.Copying.{Copying, copies, copies_on, copies_end}
 use Rattle.map_numbers.proofs.copy.Statement.{statement}
 use Rattle.map_numbers.proofs.copy.Tie as tie
 
@@ -39,13 +39,13 @@ loop-less : tie.Need-loop-smaller invariant-loop decreases-loop
 loop-less c = search rules
 
 loop-again : tie.Need-loop-preserved invariant-loop decreases-loop
-loop-again c = copies-on c.before.before.loop.invariant c.before.loop-test.true
+loop-again c = copies_on c.before.before.loop.invariant c.before.loop-test.true
 
 same_length : tie.Need-same-length invariant-loop decreases-loop
 same_length c = c.before.loop.invariant.size
 
 returns : tie.Need-returns invariant-loop decreases-loop
-returns c = copies-end c.before.loop.invariant c.loop-test.false
+returns c = copies_end c.before.loop.invariant c.loop-test.false
 
 pub copy_spec : {M : Type 1} → statement M
 copy_spec =

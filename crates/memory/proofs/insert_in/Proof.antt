@@ -3,9 +3,9 @@ use mathlib.Core.Path.{◌≡◌, sym, ◌∙◌}
 use Prim.Native.Nat.{◌-◌, ◌≤◌}
 use native.Mathlib.Omega.{arith}
 use borrow.Author.Rules.{rules}
-use Rattle.memory.specs.Map.{Pass, pass, begin, at, put, mapOf, slotsAs}
-use Rattle.memory.proofs.PassLaws.{pass-absorbs, pass-passes}
-use Rattle.memory.proofs.MapLaws.{inserted-full, inserted-room}
+use Rattle.memory.specs.Map.{Pass, pass, begin, at, put, map_of, slots_as}
+use Rattle.memory.proofs.PassLaws.{pass_absorbs, pass_passes}
+use Rattle.memory.proofs.MapLaws.{inserted_full, inserted_room}
 use Rattle.memory.proofs.insert_in.Statement.{statement}
 use Rattle.memory.proofs.insert_in.Tie as tie
 
@@ -13,7 +13,7 @@ abbrev invariant-loop : tie.invariant-loop
 invariant-loop starts₀ ends₀ kinds₀ size new₀ n₀ index₀ starts ends kinds new n index =
     (index ≤ n)
     × (n ≤ 512)
-    × (pass (n - index) (record { new = new; slots = slotsAs starts ends kinds; index = index }) ≡ pass size (begin (mapOf starts₀ ends₀ kinds₀ size) new₀))
+    × (pass (n - index) (record { new = new; slots = slots_as starts ends kinds; index = index }) ≡ pass size (begin (map_of starts₀ ends₀ kinds₀ size) new₀))
 
 abbrev decreases-loop : tie.decreases-loop
 decreases-loop starts₀ ends₀ kinds₀ size new₀ n₀ index₀ starts ends kinds new n index = n - index
@@ -95,9 +95,9 @@ unfolding at put
 loop-again c =
     let k = c.before.before.before.before in
     let l = k.before.before.before.before.before.before.before.loop in
-    let s : Pass = record { new = l.new; slots = slotsAs l.starts l.ends l.kinds; index = l.index } in
+    let s : Pass = record { new = l.new; slots = slots_as l.starts l.ends l.kinds; index = l.index } in
     let t = sym k.both.given.1 ∙ k.before.before.absorbed.ensures in
-    (omega arith, omega arith, sym (pass-absorbs l.n s _ (omega arith) t) ∙ l.invariant.2)
+    (omega arith, omega arith, sym (pass_absorbs l.n s _ (omega arith) t) ∙ l.invariant.2)
 
 enum_told : tie.Need-enum-told invariant-loop decreases-loop
 enum_told c = search rules
@@ -112,16 +112,16 @@ loop-again-2 : tie.Need-loop-preserved-2 invariant-loop decreases-loop
 unfolding at
 loop-again-2 c =
     let l = c.before.before.before.before.before.before.before.loop in
-    let s : Pass = record { new = l.new; slots = slotsAs l.starts l.ends l.kinds; index = l.index } in
+    let s : Pass = record { new = l.new; slots = slots_as l.starts l.ends l.kinds; index = l.index } in
     let t = sym c.enum_told.given.1 ∙ c.before.before.absorbed.ensures in
-    (omega arith, omega arith, sym (pass-passes l.n s (omega arith) t) ∙ l.invariant.2)
+    (omega arith, omega arith, sym (pass_passes l.n s (omega arith) t) ∙ l.invariant.2)
 
 returns : tie.Need-returns invariant-loop decreases-loop
 unfolding put
 returns c =
     let l = c.before.before.loop in
-    let s : Pass = record { new = l.new; slots = slotsAs l.starts l.ends l.kinds; index = l.index } in
-    inserted-full _ _ s l.n (omega arith) l.invariant.2 c.before.before.before.requires (omega arith)
+    let s : Pass = record { new = l.new; slots = slots_as l.starts l.ends l.kinds; index = l.index } in
+    inserted_full _ _ s l.n (omega arith) l.invariant.2 c.before.before.before.requires (omega arith)
 
 mul-starts-3 : tie.Need-overflow-mul-starts-3 invariant-loop decreases-loop
 mul-starts-3 c = search rules
@@ -148,8 +148,8 @@ returns-2 : tie.Need-returns-2 invariant-loop decreases-loop
 unfolding put
 returns-2 c =
     let l = c.before.before.loop in
-    let s : Pass = record { new = l.new; slots = slotsAs l.starts l.ends l.kinds; index = l.index } in
-    inserted-room _ _ s l.n (omega arith) l.invariant.2 (omega arith)
+    let s : Pass = record { new = l.new; slots = slots_as l.starts l.ends l.kinds; index = l.index } in
+    inserted_room _ _ s l.n (omega arith) l.invariant.2 (omega arith)
 
 pub insert-in-spec : {M : Type 1} → statement M
 insert-in-spec =

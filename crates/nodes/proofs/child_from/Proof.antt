@@ -5,14 +5,14 @@ use Prim.Native.Nat.{◌-◌}
 use native.Mathlib.Omega.{arith}
 use lib.ListN.{length}
 use borrow.Author.Rules.{rules}
-use Rattle.fdt.specs.Tree.{lexAt}
-use Rattle.nodes.specs.Nav.{findT, KidIs}
-use Rattle.nodes.proofs.FindLaws.{find-here, find-next, nearer, find-end, find-stuck}
+use Rattle.fdt.specs.Tree.{lex_at}
+use Rattle.nodes.specs.Nav.{find_t, KidIs}
+use Rattle.nodes.proofs.FindLaws.{find_here, find_next, nearer, find_end, find_stuck}
 use Rattle.nodes.proofs.child_from.Statement.{statement}
 use Rattle.nodes.proofs.child_from.Tie as tie
 
 abbrev invariant-loop : tie.invariant-loop
-invariant-loop structure strings p step at₀ at = findT step (lexAt structure strings p) 0 ≡ findT step (lexAt structure strings at) 0
+invariant-loop structure strings p step at₀ at = find_t step (lex_at structure strings p) 0 ≡ find_t step (lex_at structure strings at) 0
 
 abbrev decreases-loop : tie.decreases-loop
 decreases-loop structure strings p step at₀ at = length structure - at
@@ -41,7 +41,7 @@ returns : tie.Need-returns invariant-loop decreases-loop
 returns c =
     let k = c.before.before.before.before.before.before in
     let w = subst (KidIs _ _ _) c.before.before.before.before.q.given.1 k.next-kid.ensures in
-    (_, k.before.loop.invariant ∙ find-here _ _ _ _ _ _ _ w _ c.before.before.part.ensures (sym c.before.is-step.ensures ∙ c.if1.true))
+    (_, k.before.loop.invariant ∙ find_here _ _ _ _ _ _ _ w _ c.before.before.part.ensures (sym c.before.is-step.ensures ∙ c.if1.true))
 
 skip-requires : tie.Need-skip-requires invariant-loop decreases-loop
 skip-requires c κs = search rules
@@ -57,7 +57,7 @@ loop-again c =
     let k = c.before.before.before.before.before.before.before in
     let w = subst (KidIs _ _ _) c.before.before.before.before.before.q.given.1 k.next-kid.ensures in
     k.before.loop.invariant ∙
-    find-next _ _ _ _ _ _ _ w _ c.before.before.before.part.ensures _ (sym c.before.before.is-step.ensures ∙ c.before.if1.false) c.skip.ensures
+    find_next _ _ _ _ _ _ _ w _ c.before.before.before.part.ensures _ (sym c.before.before.is-step.ensures ∙ c.before.if1.false) c.skip.ensures
 
 enum_told : tie.Need-enum-told invariant-loop decreases-loop
 enum_told c = search rules
@@ -65,7 +65,7 @@ enum_told c = search rules
 returns-2 : tie.Need-returns-2 invariant-loop decreases-loop
 returns-2 c =
     let k = c.before.before in
-    k.before.loop.invariant ∙ find-end _ _ _ _ _ (subst (KidIs _ _ _) c.enum_told.given.1 k.next-kid.ensures)
+    k.before.loop.invariant ∙ find_end _ _ _ _ _ (subst (KidIs _ _ _) c.enum_told.given.1 k.next-kid.ensures)
 
 enum-told-2 : tie.Need-enum-told-2 invariant-loop decreases-loop
 enum-told-2 c = search rules
@@ -73,7 +73,7 @@ enum-told-2 c = search rules
 returns-3 : tie.Need-returns-3 invariant-loop decreases-loop
 returns-3 c =
     let k = c.before.before in
-    k.before.loop.invariant ∙ find-stuck _ _ _ _ (subst (KidIs _ _ _) c.enum-told2.given.1 k.next-kid.ensures)
+    k.before.loop.invariant ∙ find_stuck _ _ _ _ (subst (KidIs _ _ _) c.enum-told2.given.1 k.next-kid.ensures)
 
 pub child-from-spec : {M : Type 1} → statement M
 child-from-spec =

@@ -1,7 +1,7 @@
 -- `nodes::count_of` meets its contract: what the property's value states, where there is one. Assumes nothing.
 use mathlib.Core.Path.{◌∙◌, ap}
-use Rattle.cells.specs.Count.{statedBy}
-use Rattle.nodes.specs.Cells.{countAt}
+use Rattle.cells.specs.Count.{stated_by}
+use Rattle.nodes.specs.Cells.{count_at}
 use borrow.Author.Rules.{rules}
 use Rattle.nodes.proofs.count_of.Statement.{statement}
 use Rattle.nodes.proofs.count_of.Tie as tie
@@ -22,11 +22,11 @@ enum_told : tie.Need-enum-told
 enum_told c = search rules
 
 returns : tie.Need-returns
-unfolding countAt
-returns c = rw (← c.before.before.before.before.before.getprop.ensures, c.before.before.before.at.given.1) (c.stated.ensures ∙ ap statedBy c.before.part.ensures)
+unfolding count_at
+returns c = rw (← c.before.before.before.before.before.getprop.ensures, c.before.before.before.at.given.1) (c.stated.ensures ∙ ap stated_by c.before.part.ensures)
 
 returns-2 : tie.Need-returns-2
-unfolding countAt
+unfolding count_at
 returns-2 c = rw (← c.before.before.getprop.ensures, c.enum_told.given.1)
 
 pub count-of-spec : {M : Type 1} → statement M

@@ -1,5 +1,5 @@
 -- `nodes::getprop` meets its contract: where a node begins, the first property of the name after its name. Assumes nothing.
-use Rattle.nodes.specs.Nav.{propAt}
+use Rattle.nodes.specs.Nav.{prop_at}
 use borrow.Author.Rules.{rules}
 use Rattle.nodes.proofs.getprop.Statement.{statement}
 use Rattle.nodes.proofs.getprop.Tie as tie
@@ -14,14 +14,14 @@ enum_told : tie.Need-enum-told
 enum_told c = search rules
 
 returns : tie.Need-returns
-unfolding propAt
+unfolding prop_at
 returns c = rw (← c.before.before.content-of.ensures, c.enum_told.given.1)
 
 prop-from-requires : tie.Need-prop-from-requires
 prop-from-requires c κs = search rules
 
 returns-2 : tie.Need-returns-2
-unfolding propAt
+unfolding prop_at
 returns-2 c = rw (← c.before.before.before.before.content-of.ensures, c.before.before.p.given.1) c.prop-from.ensures
 
 pub getprop-spec : {M : Type 1} → statement M

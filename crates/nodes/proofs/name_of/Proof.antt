@@ -1,8 +1,8 @@
 -- `nodes::name_of` meets its contract: each answer is that of its token. Assumes nothing.
 use mathlib.Core.Path.{sym, ◌∙◌, ap}
 use native.Mathlib.Omega.{arith}
-use Rattle.words.proofs.BytesLaws.{part_cut, part-is}
-use Rattle.nodes.specs.Nav.{nameIn}
+use Rattle.words.proofs.BytesLaws.{part_cut, part_is}
+use Rattle.nodes.specs.Nav.{name_in}
 use Rattle.nodes.proofs.TokenLaws.{reach}
 use borrow.Author.Rules.{rules}
 use Rattle.nodes.proofs.name_of.Statement.{statement}
@@ -57,22 +57,22 @@ returns c =
     let k = c.before.before.before.before in
     let g = c.before.before.len.given in
     let m = reach _ _ _ k.token-at.ensures g.1 in
-    c.part.ensures ∙ part_cut _ _ _ (omega arith) ∙ ap (nameIn _ _) (sym g.1 ∙ k.token-at.ensures)
+    c.part.ensures ∙ part_cut _ _ _ (omega arith) ∙ ap (name_in _ _) (sym g.1 ∙ k.token-at.ensures)
 
 returns-2 : tie.Need-returns-2
-returns-2 c = c.part2.ensures ∙ part-is _ 0 0 (omega arith) ∙ ap (nameIn _ _) (sym c.before.enum_told.given.1 ∙ c.before.before.before.token-at.ensures)
+returns-2 c = c.part2.ensures ∙ part_is _ 0 0 (omega arith) ∙ ap (name_in _ _) (sym c.before.enum_told.given.1 ∙ c.before.before.before.token-at.ensures)
 
 returns-3 : tie.Need-returns-3
-returns-3 c = c.part3.ensures ∙ part-is _ 0 0 (omega arith) ∙ ap (nameIn _ _) (sym c.before.enum-told2.given.1 ∙ c.before.before.before.token-at.ensures)
+returns-3 c = c.part3.ensures ∙ part_is _ 0 0 (omega arith) ∙ ap (name_in _ _) (sym c.before.enum-told2.given.1 ∙ c.before.before.before.token-at.ensures)
 
 returns-4 : tie.Need-returns-4
-returns-4 c = c.part4.ensures ∙ part-is _ 0 0 (omega arith) ∙ ap (nameIn _ _) (sym c.before.enum-told3.given.1 ∙ c.before.before.before.token-at.ensures)
+returns-4 c = c.part4.ensures ∙ part_is _ 0 0 (omega arith) ∙ ap (name_in _ _) (sym c.before.enum-told3.given.1 ∙ c.before.before.before.token-at.ensures)
 
 returns-5 : tie.Need-returns-5
-returns-5 c = c.part5.ensures ∙ part-is _ 0 0 (omega arith) ∙ ap (nameIn _ _) (sym c.before.enum-told4.given.1 ∙ c.before.before.before.token-at.ensures)
+returns-5 c = c.part5.ensures ∙ part_is _ 0 0 (omega arith) ∙ ap (name_in _ _) (sym c.before.enum-told4.given.1 ∙ c.before.before.before.token-at.ensures)
 
 returns-6 : tie.Need-returns-6
-returns-6 c = c.part6.ensures ∙ part-is _ 0 0 (omega arith) ∙ ap (nameIn _ _) (sym c.before.enum-told5.given.1 ∙ c.before.before.before.token-at.ensures)
+returns-6 c = c.part6.ensures ∙ part_is _ 0 0 (omega arith) ∙ ap (name_in _ _) (sym c.before.enum-told5.given.1 ∙ c.before.before.before.token-at.ensures)
 
 pub name-of-spec : {M : Type 1} → statement M
 name-of-spec =

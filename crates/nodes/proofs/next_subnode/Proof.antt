@@ -1,6 +1,6 @@
 -- `nodes::next_subnode` meets its contract: where a node begins, the first node past its end. Assumes nothing.
 use mathlib.Core.Path.{◌∙◌, ap}
-use Rattle.nodes.specs.Nav.{firstKid, next_at}
+use Rattle.nodes.specs.Nav.{first_kid, next_at}
 use borrow.Author.Rules.{rules}
 use Rattle.nodes.proofs.next_subnode.Statement.{statement}
 use Rattle.nodes.proofs.next_subnode.Tie as tie
@@ -26,7 +26,7 @@ kid-from-requires c κs = search rules
 
 returns-2 : tie.Need-returns-2
 unfolding next_at
-returns-2 c = rw (← c.before.before.before.before.before.content-of.ensures, c.before.before.before.p.given.1) (c.kid-from.ensures ∙ ap firstKid c.before.skip.ensures.is)
+returns-2 c = rw (← c.before.before.before.before.before.content-of.ensures, c.before.before.before.p.given.1) (c.kid-from.ensures ∙ ap first_kid c.before.skip.ensures.is)
 
 pub next-subnode-spec : {M : Type 1} → statement M
 next-subnode-spec =

@@ -5,7 +5,7 @@ use Prim.Native.Nat.{◌-◌}
 use native.Mathlib.Omega.{arith}
 use lib.ListN.{length}
 use borrow.Author.Rules.{rules}
-use Rattle.nodes.proofs.PathLaws.{path-rootless, path_empty, path-relative, path-root, path-steps, step-empty, step-none, step-last, step-more, Goes, goes-from, goes_on}
+use Rattle.nodes.proofs.PathLaws.{path_rootless, path_empty, path_relative, path_root, path_steps, step_empty, step_none, step_last, step_more, Goes, goes_from, goes_on}
 use Rattle.nodes.proofs.path_offset.Statement.{statement}
 use Rattle.nodes.proofs.path_offset.Tie as tie
 
@@ -25,7 +25,7 @@ enum_told : tie.Need-enum-told invariant-loop decreases-loop
 enum_told c = search rules
 
 returns : tie.Need-returns invariant-loop decreases-loop
-returns c = path-rootless _ _ _ (sym c.before.before.kid-from.ensures ∙ c.enum_told.given.1)
+returns c = path_rootless _ _ _ (sym c.before.before.kid-from.ensures ∙ c.enum_told.given.1)
 
 returns-2 : tie.Need-returns-2 invariant-loop decreases-loop
 returns-2 c = path_empty _ _ _ c.if1.true
@@ -34,18 +34,18 @@ shared-slice-read-if2 : tie.Need-shared-slice-read-if2 invariant-loop decreases-
 shared-slice-read-if2 c = omega arith
 
 returns-3 : tie.Need-returns-3 invariant-loop decreases-loop
-returns-3 c = path-relative _ _ _ c.before.before.if1.false c.if2.true
+returns-3 c = path_relative _ _ _ c.before.before.if1.false c.if2.true
 
 returns-4 : tie.Need-returns-4 invariant-loop decreases-loop
 returns-4 c =
     let o = c.before.before.before in
-    path-root _ _ _ o.if1.false c.before.if2.false _ (sym o.before.before.before.before.kid-from.ensures ∙ o.before.before.root.given.1) c.if3.true
+    path_root _ _ _ o.if1.false c.before.if2.false _ (sym o.before.before.before.before.kid-from.ensures ∙ o.before.before.root.given.1) c.if3.true
 
 loop-holds : tie.Need-loop-init invariant-loop decreases-loop
 loop-holds c =
     let o = c.before.before.before in
-    goes-from _ _ _ _ o.if1.false
-    (path-steps _ _ _ o.if1.false c.before.if2.false _ (sym o.before.before.before.before.kid-from.ensures ∙ o.before.before.root.given.1) c.if3.false)
+    goes_from _ _ _ _ o.if1.false
+    (path_steps _ _ _ o.if1.false c.before.if2.false _ (sym o.before.before.before.before.kid-from.ensures ∙ o.before.before.root.given.1) c.if3.false)
 
 byte-from-requires : tie.Need-byte-from-requires invariant-loop decreases-loop
 byte-from-requires c κs = search rules
@@ -54,7 +54,7 @@ returns-5 : tie.Need-returns-5 invariant-loop decreases-loop
 returns-5 c =
     let k = c.before in
     let l = k.before.loop in
-    sym (l.invariant.same ∙ step-empty _ _ _ _ _ _ _ k.byte-from.ensures.is c.if4.true)
+    sym (l.invariant.same ∙ step_empty _ _ _ _ _ _ _ k.byte-from.ensures.is c.if4.true)
 
 sub_part : tie.Need-overflow-sub-part invariant-loop decreases-loop
 sub_part c = omega arith
@@ -78,7 +78,7 @@ returns-6 c =
     let l = k.before.loop in
     sym
     (l.invariant.same ∙
-    step-none _ _ _ _ _ _ _ k.byte-from.ensures.is t.before.before.if4.false (k.byte-from.ensures.upto l.invariant.within) _ t.before.part.ensures _ t.subnode.ensures c.enum-told2.given.1)
+    step_none _ _ _ _ _ _ _ k.byte-from.ensures.is t.before.before.if4.false (k.byte-from.ensures.upto l.invariant.within) _ t.before.part.ensures _ t.subnode.ensures c.enum-told2.given.1)
 
 returns-7 : tie.Need-returns-7 invariant-loop decreases-loop
 returns-7 c =
@@ -87,7 +87,7 @@ returns-7 c =
     let l = k.before.loop in
     sym
     (l.invariant.same ∙
-    step-last _ _ _ _ _ _ _ k.byte-from.ensures.is t.before.before.if4.false (k.byte-from.ensures.upto l.invariant.within) _ t.before.part.ensures _ t.subnode.ensures _ c.before.before.next.given.1 c.if5.true)
+    step_last _ _ _ _ _ _ _ k.byte-from.ensures.is t.before.before.if4.false (k.byte-from.ensures.upto l.invariant.within) _ t.before.part.ensures _ t.subnode.ensures _ c.before.before.next.given.1 c.if5.true)
 
 add-i : tie.Need-overflow-add-i invariant-loop decreases-loop
 add-i c = omega arith
@@ -101,7 +101,7 @@ loop-again c =
     let k = t.before.before.before in
     let l = k.before.loop in
     goes_on _ _ l.invariant t.before.before.if4.false c.if5.false
-    (step-more _ _ _ _ _ _ _ k.byte-from.ensures.is t.before.before.if4.false (k.byte-from.ensures.upto l.invariant.within) _ t.before.part.ensures _ t.subnode.ensures _ c.before.before.next.given.1 c.if5.false)
+    (step_more _ _ _ _ _ _ _ k.byte-from.ensures.is t.before.before.if4.false (k.byte-from.ensures.upto l.invariant.within) _ t.before.part.ensures _ t.subnode.ensures _ c.before.before.next.given.1 c.if5.false)
 
 pub path-offset-spec : {M : Type 1} → statement M
 path-offset-spec =

@@ -4,19 +4,19 @@ use mathlib.Core.Path.{◌≡◌, refl}
 use Prim.Native.Nat.{◌-◌}
 use native.Mathlib.Omega.{arith}
 use lib.ListN.{length, drop}
-use Rattle.nodes.specs.Nav.{sameBytes}
-use Rattle.nodes.proofs.SameLaws.{differ-length, differ-at, agree_at, agree-all}
+use Rattle.nodes.specs.Nav.{same_bytes}
+use Rattle.nodes.proofs.SameLaws.{differ_length, differ_at, agree_at, agree_all}
 use Rattle.nodes.proofs.same.Statement.{statement}
 use Rattle.nodes.proofs.same.Tie as tie
 
 abbrev invariant-loop : tie.invariant-loop
-invariant-loop a b i₀ i = sameBytes a b ≡ sameBytes (drop i a) (drop i b)
+invariant-loop a b i₀ i = same_bytes a b ≡ same_bytes (drop i a) (drop i b)
 
 abbrev decreases-loop : tie.decreases-loop
 decreases-loop a b i₀ i = length a - i
 
 returns : tie.Need-returns invariant-loop decreases-loop
-returns c = differ-length _ _ c.if1.true
+returns c = differ_length _ _ c.if1.true
 
 loop-holds : tie.Need-loop-init invariant-loop decreases-loop
 loop-holds c = refl
@@ -31,7 +31,7 @@ returns-2 : tie.Need-returns-2 invariant-loop decreases-loop
 returns-2 c =
     let w = c.before.before.before in
     let l = w.before in
-    differ-at _ _ l.loop.i l.before.if1.false l.loop.invariant w.loop-test.true c.if2.true
+    differ_at _ _ l.loop.i l.before.if1.false l.loop.invariant w.loop-test.true c.if2.true
 
 add-i : tie.Need-overflow-add-i invariant-loop decreases-loop
 add-i c = omega arith
@@ -48,7 +48,7 @@ loop-again c =
 returns-3 : tie.Need-returns-3 invariant-loop decreases-loop
 returns-3 c =
     let l = c.before in
-    agree-all _ _ l.loop.i l.before.if1.false l.loop.invariant c.loop-test.false
+    agree_all _ _ l.loop.i l.before.if1.false l.loop.invariant c.loop-test.false
 
 pub same_spec : {M : Type 1} → statement M
 same_spec =

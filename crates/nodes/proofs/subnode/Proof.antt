@@ -1,7 +1,7 @@
 -- `nodes::subnode` meets its contract: where a node begins, the first child of the step after its name. Assumes nothing.
 use mathlib.Core.Path.{sym, ◌∙◌, ap}
-use Rattle.nodes.specs.Nav.{childAt}
-use Rattle.nodes.proofs.FindLaws.{placed, child-found}
+use Rattle.nodes.specs.Nav.{child_at}
+use Rattle.nodes.proofs.FindLaws.{placed, child_found}
 use borrow.Author.Rules.{rules}
 use Rattle.nodes.proofs.subnode.Statement.{statement}
 use Rattle.nodes.proofs.subnode.Tie as tie
@@ -16,7 +16,7 @@ enum_told : tie.Need-enum-told
 enum_told c = search rules
 
 returns : tie.Need-returns
-unfolding childAt
+unfolding child_at
 returns c = rw (← c.before.before.content-of.ensures, c.enum_told.given.1)
 
 child-from-requires : tie.Need-child-from-requires
@@ -29,18 +29,18 @@ enum-told-2 : tie.Need-enum-told-2
 enum-told-2 c = search rules
 
 returns-2 : tie.Need-returns-2
-unfolding childAt
+unfolding child_at
 returns-2 c =
     let k = c.before.before.before in
     rw (← k.before.before.before.before.content-of.ensures, k.before.before.p.given.1)
-    (ap placed (sym c.before.q.given.1) ∙ child-found _ _ _ _ k.child-from.result k.child-from.ensures)
+    (ap placed (sym c.before.q.given.1) ∙ child_found _ _ _ _ k.child-from.result k.child-from.ensures)
 
 returns-3 : tie.Need-returns-3
-unfolding childAt
+unfolding child_at
 returns-3 c =
     let k = c.before.before in
     rw (← k.before.before.before.before.content-of.ensures, k.before.before.p.given.1)
-    (ap placed (sym c.enum-told2.given.1) ∙ child-found _ _ _ _ k.child-from.result k.child-from.ensures)
+    (ap placed (sym c.enum-told2.given.1) ∙ child_found _ _ _ _ k.child-from.result k.child-from.ensures)
 
 pub subnode-spec : {M : Type 1} → statement M
 subnode-spec =

@@ -1,7 +1,7 @@
 -- `order::file_end` meets its contract: each way out is a way through the definition (EndLaws). Assumes nothing.
 use mathlib.Core.Path.{sym}
 use native.Mathlib.Omega.{arith}
-use Rattle.order.proofs.EndLaws.{end_short, end-held}
+use Rattle.order.proofs.EndLaws.{end_short, end_held}
 use borrow.Author.Rules.{rules}
 use Rattle.order.proofs.file_end.Statement.{statement}
 use Rattle.order.proofs.file_end.Tie as tie
@@ -25,10 +25,10 @@ add-end-2 : tie.Need-overflow-add-end-2
 add-end-2 c = search rules
 
 returns-2 : tie.Need-returns-2
-returns-2 c = (omega (arith, end-held c.before.before.before.before.before.args.input.now c.before.before.before.if1.false), omega arith)
+returns-2 c = (omega (arith, end_held c.before.before.before.before.before.args.input.now c.before.before.before.if1.false), omega arith)
 
 returns-3 : tie.Need-returns-3
-returns-3 c = (omega (arith, end-held c.before.before.before.before.before.args.input.now c.before.before.before.if1.false), omega arith)
+returns-3 c = (omega (arith, end_held c.before.before.before.before.before.args.input.now c.before.before.before.if1.false), omega arith)
 
 pub file-end-spec : {M : Type 1} → statement M
 file-end-spec =

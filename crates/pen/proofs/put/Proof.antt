@@ -3,7 +3,7 @@ use Prim.Native.Nat.{◌+◌, ◌-◌, ◌≤◌}
 use native.Mathlib.Omega.{arith}
 use borrow.Author.Rules.{rules}
 use lib.ListN.{length}
-use Rattle.pen.proofs.WritingLaws.{no_room, room, nothing_put, all-put, Putting, begins, more, ends}
+use Rattle.pen.proofs.WritingLaws.{no_room, room, nothing_put, all_put, Putting, begins, more, ends}
 use Rattle.pen.proofs.put.Statement.{statement}
 use Rattle.pen.proofs.put.Tie as tie
 
@@ -47,7 +47,7 @@ same_length : tie.Need-same-length invariant-loop decreases-loop
 same_length c = c.before.loop.invariant.0.size
 
 returns-2 : tie.Need-returns-2 invariant-loop decreases-loop
-returns-2 c = all-put c.before.loop.invariant.1 (ends c.before.loop.invariant.0 c.loop-test.false)
+returns-2 c = all_put c.before.loop.invariant.1 (ends c.before.loop.invariant.0 c.loop-test.false)
 
 pub put_spec : {M : Type 1} → statement M
 put_spec =

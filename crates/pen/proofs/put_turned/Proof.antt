@@ -4,8 +4,8 @@ use mathlib.Core.List.{reverse}
 use native.Mathlib.Omega.{arith}
 use borrow.Author.Rules.{rules}
 use lib.ListN.{length, length-reverse}
-use Rattle.pen.proofs.WritingLaws.{no_room, room, nothing_put, all-put, Putting, begins, ends}
-use Rattle.pen.proofs.TurnLaws.{more-turned}
+use Rattle.pen.proofs.WritingLaws.{no_room, room, nothing_put, all_put, Putting, begins, ends}
+use Rattle.pen.proofs.TurnLaws.{more_turned}
 use Rattle.pen.proofs.put_turned.Statement.{statement}
 use Rattle.pen.proofs.put_turned.Tie as tie
 
@@ -46,7 +46,7 @@ loop-less : tie.Need-loop-smaller invariant-loop decreases-loop
 loop-less c = search rules
 
 loop-again : tie.Need-loop-preserved invariant-loop decreases-loop
-loop-again c = (more-turned c.before.before.before.before.before.before.before.args.bytes.now c.before.before.loop.invariant.0 c.before.before.loop.invariant.2 c.before.loop-test.true, omega arith, c.before.before.loop.invariant.2)
+loop-again c = (more_turned c.before.before.before.before.before.before.before.args.bytes.now c.before.before.loop.invariant.0 c.before.before.loop.invariant.2 c.before.loop-test.true, omega arith, c.before.before.loop.invariant.2)
 
 add-result : tie.Need-overflow-add-result invariant-loop decreases-loop
 add-result c = search rules
@@ -55,7 +55,7 @@ same_length : tie.Need-same-length invariant-loop decreases-loop
 same_length c = c.before.loop.invariant.0.size
 
 returns-2 : tie.Need-returns-2 invariant-loop decreases-loop
-returns-2 c = let l = length-reverse c.before.before.before.before.before.before.args.bytes.now in let i = c.before.loop.invariant in all-put (omega arith) (ends i.0 (omega (arith, c.loop-test.false)))
+returns-2 c = let l = length-reverse c.before.before.before.before.before.before.args.bytes.now in let i = c.before.loop.invariant in all_put (omega arith) (ends i.0 (omega (arith, c.loop-test.false)))
 
 pub put-turned-spec : {M : Type 1} → statement M
 put-turned-spec =

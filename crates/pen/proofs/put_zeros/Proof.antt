@@ -3,8 +3,8 @@ use Prim.Native.Nat.{ℕ, ◌+◌, ◌-◌, ◌≤◌}
 use native.Mathlib.Omega.{arith}
 use borrow.Author.Rules.{rules}
 use lib.ListN.{length, replicate, length-replicate}
-use Rattle.pen.proofs.WritingLaws.{no_room, room, nothing_put, all-put, Putting, begins, ends}
-use Rattle.pen.proofs.TurnLaws.{more-zeros}
+use Rattle.pen.proofs.WritingLaws.{no_room, room, nothing_put, all_put, Putting, begins, ends}
+use Rattle.pen.proofs.TurnLaws.{more_zeros}
 use Rattle.pen.proofs.put_zeros.Statement.{statement}
 use Rattle.pen.proofs.put_zeros.Tie as tie
 
@@ -36,7 +36,7 @@ loop-less : tie.Need-loop-smaller invariant-loop decreases-loop
 loop-less c = search rules
 
 loop-again : tie.Need-loop-preserved invariant-loop decreases-loop
-loop-again c = (more-zeros c.before.before.before.before.before.args.n c.before.loop.invariant.0 c.before.loop.invariant.2 c.loop-test.true, omega arith, c.before.loop.invariant.2)
+loop-again c = (more_zeros c.before.before.before.before.before.args.n c.before.loop.invariant.0 c.before.loop.invariant.2 c.loop-test.true, omega arith, c.before.loop.invariant.2)
 
 add-result : tie.Need-overflow-add-result invariant-loop decreases-loop
 add-result c = search rules
@@ -45,7 +45,7 @@ same_length : tie.Need-same-length invariant-loop decreases-loop
 same_length c = c.before.loop.invariant.0.size
 
 returns-2 : tie.Need-returns-2 invariant-loop decreases-loop
-returns-2 c = let l = length-replicate {A = ℕ} c.before.before.before.before.before.args.n 0 in let i = c.before.loop.invariant in all-put (omega arith) (ends i.0 (omega (arith, c.loop-test.false)))
+returns-2 c = let l = length-replicate {A = ℕ} c.before.before.before.before.before.args.n 0 in let i = c.before.loop.invariant in all_put (omega arith) (ends i.0 (omega (arith, c.loop-test.false)))
 
 pub put-zeros-spec : {M : Type 1} → statement M
 put-zeros-spec =

@@ -3,7 +3,7 @@ use lib.Seq.{lt-length-set}
 use lib.ListN.{length, get_or}
 use native.Mathlib.Omega.{arith}
 use Prim.Native.Nat.{◌-◌, ◌≤◌}
-use Rattle.pen.proofs.TurnLaws.{Turning, turn-begins, turn_more, turn-ends, turn-none}
+use Rattle.pen.proofs.TurnLaws.{Turning, turn_begins, turn_more, turn_ends, turn_none}
 use Rattle.pen.proofs.turn_from.Statement.{statement}
 use Rattle.pen.proofs.turn_from.Tie as tie
 
@@ -14,10 +14,10 @@ abbrev decreases-loop : tie.decreases-loop
 decreases-loop out₀ from lo₀ hi₀ out lo hi = hi - lo
 
 returns : tie.Need-returns invariant-loop decreases-loop
-returns c = turn-none _ _ c.if1.true
+returns c = turn_none _ _ c.if1.true
 
 loop-holds : tie.Need-loop-init invariant-loop decreases-loop
-loop-holds c = (turn-begins c.if1.false, omega arith)
+loop-holds c = (turn_begins c.if1.false, omega arith)
 
 add-loop : tie.Need-overflow-add-loop invariant-loop decreases-loop
 add-loop c = omega arith
@@ -50,7 +50,7 @@ same_length : tie.Need-same-length invariant-loop decreases-loop
 same_length c = c.before.loop.invariant.0.size
 
 returns-2 : tie.Need-returns-2 invariant-loop decreases-loop
-returns-2 c = turn-ends c.before.loop.invariant.0 c.before.before.if1.false c.loop-test.false
+returns-2 c = turn_ends c.before.loop.invariant.0 c.before.before.if1.false c.loop-test.false
 
 pub turn-from-spec : {M : Type 1} → statement M
 turn-from-spec =

@@ -1,5 +1,5 @@
 -- `late` lends what was read and writes the text, whose lengths the two calls answer. Assumes nothing.
-use Rattle.report_text.proofs.WritingLaws.{text-length, text-inside}
+use Rattle.report_text.proofs.WritingLaws.{text_length, text_inside}
 use Rattle.standard.proofs.Laws.{held}
 use borrow.Author.Rules.{rules}
 use Rattle.program.proofs.late.Statement.{statement}
@@ -39,10 +39,10 @@ late-requires : tie.Need-late-requires
 late-requires c κs = search rules
 
 array-share-prefix-text : tie.Need-array-share-prefix-text
-array-share-prefix-text c = text-inside c.late.ensures.0
+array-share-prefix-text c = text_inside c.late.ensures.0
 
 slice-aggregate-write-all-2 : tie.Need-slice-aggregate-write-all-2
-slice-aggregate-write-all-2 c = text-length c.before.late.ensures.0
+slice-aggregate-write-all-2 c = text_length c.before.late.ensures.0
 
 write-all-requires-2 : tie.Need-write-all-requires-2
 write-all-requires-2 c κs = search rules

@@ -1,6 +1,6 @@
 -- `report` lends what was read and writes the text, whose lengths the two calls answer.
 use borrow.Author.Rules.{rules}
-use Rattle.report_text.proofs.WritingLaws.{text-length, text-inside}
+use Rattle.report_text.proofs.WritingLaws.{text_length, text_inside}
 use Rattle.standard.proofs.Laws.{held}
 use Rattle.program.proofs.report.Statement.{statement}
 use Rattle.program.proofs.report.Tie as tie
@@ -39,11 +39,11 @@ report-requires c κs = search rules
 
 -- src/lib.rt:16:25
 array-share-prefix-text : tie.Need-array-share-prefix-text
-array-share-prefix-text c = text-inside c.report.ensures.0
+array-share-prefix-text c = text_inside c.report.ensures.0
 
 -- src/lib.rt:16:25
 slice-aggregate-write-all : tie.Need-slice-aggregate-write-all
-slice-aggregate-write-all c = text-length c.before.report.ensures.0
+slice-aggregate-write-all c = text_length c.before.report.ensures.0
 
 -- src/lib.rt:16:5
 write-all-requires : tie.Need-write-all-requires

@@ -3,7 +3,7 @@ use native.Mathlib.Omega.{arith}
 use lib.ListN.{length-take}
 use Rattle.page.proofs.Laws.{page}
 use Rattle.report_text.proofs.WritingLaws.{same_text}
-use Rattle.report_text.proofs.LateLaws.{start-made, text-refused, slots-refused, text-done, slots-done}
+use Rattle.report_text.proofs.LateLaws.{start_made, text_refused, slots_refused, text_done, slots_done}
 use borrow.Author.Rules.{rules}
 use Rattle.report_text.proofs.late.Statement.{statement}
 use Rattle.report_text.proofs.late.Tie as tie
@@ -12,7 +12,7 @@ file-end-requires : tie.Need-file-end-requires
 file-end-requires c κs = search rules
 
 slice-aggregate-init-map : tie.Need-slice-aggregate-init-map
-slice-aggregate-init-map c = omega (arith, length-take c.before.file-end.result c.before.before.before.args.input.now, c.before.file-end.ensures.1)
+slice-aggregate-init-map c = omega (arith, length-take c.before.file_end_lem.result c.before.before.before.args.input.now, c.before.file_end_lem.ensures.1)
 
 init-map-requires : tie.Need-init-map-requires
 init-map-requires c κs = search rules
@@ -42,7 +42,7 @@ claim-all-requires : tie.Need-claim-all-requires
 claim-all-requires c κs =
     let b = c.before.before.before.before.before in
     let e = b.before.before.before in
-    start-made e.before.before.args.input.now e.file-end.ensures.0 b.init-map.ensures page
+    start_made e.before.before.args.input.now e.file_end_lem.ensures.0 b.init-map.ensures page
 
 put-run-requires : tie.Need-put-run-requires
 put-run-requires c κs = search rules
@@ -53,8 +53,8 @@ returns c =
     let e = b.before.before.before in
     let s = e.before.before.args.input.now in
     let d = c.before.before.before.before.report.given.1 in (
-      same_text c.put-refusal.ensures (text-refused s e.file-end.ensures.0 b.init-map.ensures d c.before.number.ensures),
-      slots-refused s e.file-end.ensures.0 b.init-map.ensures d,
+      same_text c.put-refusal.ensures (text_refused s e.file_end_lem.ensures.0 b.init-map.ensures d c.before.number.ensures),
+      slots_refused s e.file_end_lem.ensures.0 b.init-map.ensures d,
     )
 
 returns-2 : tie.Need-returns-2
@@ -64,8 +64,8 @@ returns-2 c =
     let b = d.before.before in
     let e = b.before.before.before in
     let s = e.before.before.args.input.now in (
-      same_text c.put-run.ensures (text-done s e.file-end.ensures.0 b.init-map.ensures d.report2.given.1 r.claim-all.ensures),
-      slots-done s e.file-end.ensures.0 b.init-map.ensures d.report2.given.1 r.claim-all.ensures,
+      same_text c.put-run.ensures (text_done s e.file_end_lem.ensures.0 b.init-map.ensures d.report2.given.1 r.claim-all.ensures),
+      slots_done s e.file_end_lem.ensures.0 b.init-map.ensures d.report2.given.1 r.claim-all.ensures,
     )
 
 pub late-spec : {M : Type 1} → statement M

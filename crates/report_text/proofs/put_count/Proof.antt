@@ -1,9 +1,9 @@
 -- `report_text::put_count` meets its contract: its texts stand one behind the other (WritingLaws). Assumes nothing.
 use borrow.Author.Rules.{rules}
 use native.Mathlib.Omega.{arith}
-use Rattle.report_text.specs.Text.{countLine}
-use Rattle.report_text.proofs.DigitsLaws.{decimal-length}
-use Rattle.report_text.proofs.WritingLaws.{writes-append}
+use Rattle.report_text.specs.Text.{count_line}
+use Rattle.report_text.proofs.DigitsLaws.{decimal_length}
+use Rattle.report_text.proofs.WritingLaws.{writes_append}
 use Rattle.report_text.proofs.put_count.Statement.{statement}
 use Rattle.report_text.proofs.put_count.Tie as tie
 
@@ -20,18 +20,18 @@ slice-aggregate-put-2 : tie.Need-slice-aggregate-put-2
 slice-aggregate-put-2 c = search rules
 
 put-requires-2 : tie.Need-put-requires-2
-put-requires-2 c κs = omega (arith, decimal-length c.before.before.before.before.before.before.before.before.before.before.before.before.args.n)
+put-requires-2 c κs = omega (arith, decimal_length c.before.before.before.before.before.before.before.before.before.before.before.before.args.n)
 
 same_length : tie.Need-same-length
 same_length c = search rules
 
 returns : tie.Need-returns
-unfolding countLine
+unfolding count_line
 returns c =
     let d = c.before.before.before.before.before.before.before in
     let e = d.before.before.before.before in
-    let few = decimal-length e.before.before.before.before.args.n in
-    writes-append e.put.ensures (writes-append d.put-decimal.ensures c.before.before.put2.ensures (omega arith)) (omega arith)
+    let few = decimal_length e.before.before.before.before.args.n in
+    writes_append e.put.ensures (writes_append d.put-decimal.ensures c.before.before.put2.ensures (omega arith)) (omega arith)
 
 pub put-count-spec : {M : Type 1} → statement M
 put-count-spec =

@@ -2,7 +2,7 @@
 use borrow.Author.Rules.{rules}
 use lib.ListN.{take}
 use native.Mathlib.Omega.{arith}
-use Rattle.report_text.proofs.DigitsLaws.{decimal-is, decimal-length}
+use Rattle.report_text.proofs.DigitsLaws.{decimal_is, decimal_length}
 use Rattle.report_text.proofs.WritingLaws.{same_text}
 use Rattle.report_text.proofs.put_decimal.Statement.{statement}
 use Rattle.report_text.proofs.put_decimal.Tie as tie
@@ -19,8 +19,8 @@ slice-aggregate-put c = search rules
 put-requires : tie.Need-put-requires
 put-requires c κs =
     let d = c.before.before in
-    rw (decimal-is {l = take d.decimal.result d.decimal.new.1.0} (search rules) d.decimal.ensures.1.0 d.decimal.ensures.1.1)
-    (omega (arith, decimal-length d.before.before.before.args.n))
+    rw (decimal_is {l = take d.decimal.result d.decimal.new.1.0} (search rules) d.decimal.ensures.1.0 d.decimal.ensures.1.1)
+    (omega (arith, decimal_length d.before.before.before.args.n))
 
 same_length : tie.Need-same-length
 same_length c = search rules
@@ -28,7 +28,7 @@ same_length c = search rules
 returns : tie.Need-returns
 returns c =
     let d = c.before.before.before.before.before in
-    same_text c.before.before.put.ensures (decimal-is (search rules) d.decimal.ensures.1.0 d.decimal.ensures.1.1)
+    same_text c.before.before.put.ensures (decimal_is (search rules) d.decimal.ensures.1.0 d.decimal.ensures.1.1)
 
 pub put-decimal-spec : {M : Type 1} → statement M
 put-decimal-spec =

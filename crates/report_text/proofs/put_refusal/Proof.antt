@@ -1,9 +1,9 @@
 -- `report_text::put_refusal` meets its contract: its texts stand one behind the other (WritingLaws). Assumes nothing.
 use borrow.Author.Rules.{rules}
 use native.Mathlib.Omega.{arith}
-use Rattle.report_text.specs.Text.{refusedLine}
-use Rattle.report_text.proofs.DigitsLaws.{decimal-length}
-use Rattle.report_text.proofs.WritingLaws.{writes-append}
+use Rattle.report_text.specs.Text.{refused_line}
+use Rattle.report_text.proofs.DigitsLaws.{decimal_length}
+use Rattle.report_text.proofs.WritingLaws.{writes_append}
 use Rattle.report_text.proofs.put_refusal.Statement.{statement}
 use Rattle.report_text.proofs.put_refusal.Tie as tie
 
@@ -20,18 +20,18 @@ slice-aggregate-put-2 : tie.Need-slice-aggregate-put-2
 slice-aggregate-put-2 c = search rules
 
 put-requires-2 : tie.Need-put-requires-2
-put-requires-2 c κs = omega (arith, decimal-length c.before.before.before.before.before.before.before.before.before.before.before.before.args.number)
+put-requires-2 c κs = omega (arith, decimal_length c.before.before.before.before.before.before.before.before.before.before.before.before.args.number)
 
 same_length : tie.Need-same-length
 same_length c = search rules
 
 returns : tie.Need-returns
-unfolding refusedLine
+unfolding refused_line
 returns c =
     let d = c.before.before.before.before.before.before.before in
     let e = d.before.before.before.before in
-    let few = decimal-length e.before.before.before.before.args.number in
-    writes-append e.put.ensures (writes-append d.put-decimal.ensures c.before.before.put2.ensures (omega arith)) (omega arith)
+    let few = decimal_length e.before.before.before.before.args.number in
+    writes_append e.put.ensures (writes_append d.put-decimal.ensures c.before.before.put2.ensures (omega arith)) (omega arith)
 
 pub put-refusal-spec : {M : Type 1} → statement M
 put-refusal-spec =

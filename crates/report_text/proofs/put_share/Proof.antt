@@ -1,6 +1,6 @@
 -- `report_text::put_share` meets its contract: in each arm the share's text is the arm's (TextLaws). Assumes nothing.
 use borrow.Author.Rules.{rules}
-use Rattle.report_text.proofs.TextLaws.{share-none, share-bits}
+use Rattle.report_text.proofs.TextLaws.{share_none, share_bits}
 use Rattle.report_text.proofs.WritingLaws.{same_text}
 use Rattle.report_text.proofs.put_share.Statement.{statement}
 use Rattle.report_text.proofs.put_share.Tie as tie
@@ -28,14 +28,14 @@ same_length c = search rules
 
 returns : tie.Need-returns
 returns c =
-    let d = c.before.before.before.before.before in same_text c.before.before.put.ensures (share-none d.before.before.before.before.args.sheet d.before.before.share-bits.ensures d.enum_told.given.1)
+    let d = c.before.before.before.before.before in same_text c.before.before.put.ensures (share_none d.before.before.before.before.args.sheet d.before.before.share_bits.ensures d.enum_told.given.1)
 
 same-length-2 : tie.Need-same-length-2
 same-length-2 c = search rules
 
 returns-2 : tie.Need-returns-2
 returns-2 c =
-    let d = c.before.before.before.before.before in same_text c.before.before.put-hex.ensures (share-bits d.before.before.before.before.args.sheet d.before.before.share-bits.ensures d.bits.given.1)
+    let d = c.before.before.before.before.before in same_text c.before.before.put-hex.ensures (share_bits d.before.before.before.before.args.sheet d.before.before.share_bits.ensures d.bits.given.1)
 
 pub put-share-spec : {M : Type 1} → statement M
 put-share-spec =

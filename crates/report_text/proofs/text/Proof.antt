@@ -4,8 +4,8 @@ use borrow.Author.Rules.{rules}
 use mathlib.Core.Path.{◌≡◌}
 use native.Mathlib.Omega.{arith}
 use lib.ListN.{length}
-use Rattle.report_text.proofs.TextLaws.{count-length, areas-length, refused-text, done-text}
-use Rattle.report_text.proofs.WritingLaws.{kept, same_text, writes-append}
+use Rattle.report_text.proofs.TextLaws.{count_length, areas_length, refused_text, done_text}
+use Rattle.report_text.proofs.WritingLaws.{kept, same_text, writes_append}
 use Rattle.report_text.proofs.text.Statement.{statement}
 use Rattle.report_text.proofs.text.Tie as tie
 
@@ -30,7 +30,7 @@ listed-requires c κs = search rules
 put-areas-requires : tie.Need-put-areas-requires
 put-areas-requires c κs =
     let a = c.before.before.before.before.before.before.before.before.args in
-    let few = count-length c.before.before.before.before.before.before.report2.given.0.0 in
+    let few = count_length c.before.before.before.before.before.before.report2.given.0.0 in
     let slots : length a.slots.now ≡ 1024 = search rules in
     let room : length a.out.now ≡ 17500 = search rules in
     let end = c.before.before.before.put_count.ensures.end in
@@ -41,8 +41,8 @@ put-pages-requires : tie.Need-put-pages-requires
 put-pages-requires c κs =
     let d = c.before.before.before.before.before in
     let a = d.before.before.before.before.before.args in
-    let few = count-length d.before.before.before.report2.given.0.0 in
-    let lines = areas-length a.slots.now c.before.before.listed.result 0 in
+    let few = count_length d.before.before.before.report2.given.0.0 in
+    let lines = areas_length a.slots.now c.before.before.listed.result 0 in
     let room : length a.out.now ≡ 17500 = search rules in
     let first = d.put_count.ensures.end in
     let size = kept d.put_count.ensures (omega arith) in
@@ -53,20 +53,20 @@ put-pages-requires c κs =
 returns : tie.Need-returns
 returns c =
     same_text c.put-refusal.ensures
-    (refused-text c.before.before.before.before.before.before.args.slots.now c.before.before.before.before.report.given.1 c.before.number.ensures)
+    (refused_text c.before.before.before.before.before.before.args.slots.now c.before.before.before.before.report.given.1 c.before.number.ensures)
 
 returns-2 : tie.Need-returns-2
 returns-2 c =
     let d = c.before.before.before.before.before.before in
     let a = d.before.before.before.before.before.args in
-    let few = count-length d.before.before.before.report2.given.0.0 in
+    let few = count_length d.before.before.before.report2.given.0.0 in
     let room : length a.out.now ≡ 17500 = search rules in
     let slots : length a.slots.now ≡ 1024 = search rules in
     let end = d.put_count.ensures.end in
     let size = kept d.put_count.ensures (omega arith) in
     same_text
-    (writes-append d.put_count.ensures (writes-append c.before.before.put-areas.ensures c.put-pages.ensures (omega arith)) (omega arith))
-    (done-text a.slots.now d.before.before.before.report2.given.1 slots c.before.before.before.listed.ensures.2)
+    (writes_append d.put_count.ensures (writes_append c.before.before.put-areas.ensures c.put-pages.ensures (omega arith)) (omega arith))
+    (done_text a.slots.now d.before.before.before.report2.given.1 slots c.before.before.before.listed.ensures.2)
 
 pub text-spec : {M : Type 1} → statement M
 text-spec =

@@ -1,6 +1,6 @@
 -- `reserved_entry` reads entry i. Assumes nothing.
 use borrow.Author.Rules.{rules}
-use Rattle.reservations.proofs.EntryLaws.{entry_past, entry-address, entry-size, entry-end}
+use Rattle.reservations.proofs.EntryLaws.{entry_past, entry_address, entry_size, entry_end}
 use Rattle.reservations.proofs.reserved_entry.Statement.{statement}
 use Rattle.reservations.proofs.reserved_entry.Tie as tie
 
@@ -25,17 +25,17 @@ be64-requires-2 c κs = search rules
 returns-2 : tie.Need-returns-2
 returns-2 c =
     let k = c.before in
-    entry-address _ _ _ _ k.before.before.if1.false k.before.be64.ensures.is k.be642.ensures.is c.if2.true
+    entry_address _ _ _ _ k.before.before.if1.false k.before.be64.ensures.is k.be642.ensures.is c.if2.true
 
 returns-3 : tie.Need-returns-3
 returns-3 c =
     let k = c.before.before in
-    entry-size _ _ _ _ k.before.before.if1.false k.before.be64.ensures.is k.be642.ensures.is c.before.if2.false c.if3.true
+    entry_size _ _ _ _ k.before.before.if1.false k.before.be64.ensures.is k.be642.ensures.is c.before.if2.false c.if3.true
 
 returns-4 : tie.Need-returns-4
 returns-4 c =
     let k = c.before.before in
-    entry-end _ _ _ _ k.before.before.if1.false k.before.be64.ensures.is k.be642.ensures.is c.before.if2.false c.if3.false
+    entry_end _ _ _ _ k.before.before.if1.false k.before.be64.ensures.is k.be642.ensures.is c.before.if2.false c.if3.false
 
 pub reserved-entry-spec : {M : Type 1} → statement M
 reserved-entry-spec =

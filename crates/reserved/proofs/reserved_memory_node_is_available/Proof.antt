@@ -1,5 +1,5 @@
 -- `reserved_memory_node_is_available` meets its contract: `status` is what stands at its place, or it is absent. Assumes nothing.
-use Rattle.reserved.proofs.ChildrenLaws.{status-here, status-missing}
+use Rattle.reserved.proofs.ChildrenLaws.{status_here, status_missing}
 use borrow.Author.Rules.{rules}
 use Rattle.reserved.proofs.reserved_memory_node_is_available.Statement.{statement}
 use Rattle.reserved.proofs.reserved_memory_node_is_available.Tie as tie
@@ -29,10 +29,10 @@ returns : tie.Need-returns
 returns c =
     let p = c.before.before in
     let k = p.before.before in
-    status-here _ _ _ _ k.before.before.getprop.ensures _ _ _ _ k.at.given.1 p.part.ensures c.same.ensures
+    status_here _ _ _ _ k.before.before.getprop.ensures _ _ _ _ k.at.given.1 p.part.ensures c.same.ensures
 
 returns-2 : tie.Need-returns-2
-returns-2 c = status-missing _ _ _ _ c.before.before.getprop.ensures c.enum_told.given.1
+returns-2 c = status_missing _ _ _ _ c.before.before.getprop.ensures c.enum_told.given.1
 
 pub reserved-memory-node-is-available-spec : {M : Type 1} → statement M
 reserved-memory-node-is-available-spec =

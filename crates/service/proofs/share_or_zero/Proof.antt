@@ -2,7 +2,7 @@
 use mathlib.Core.Path.{ap, sym}
 use lib.Ieee
 use borrow.Author.Rules.{rules}
-use Rattle.service.specs.Plain.{shareFloat}
+use Rattle.service.specs.Plain.{share_float}
 use Rattle.service.proofs.share_or_zero.Statement.{statement}
 use Rattle.service.proofs.share_or_zero.Tie as tie
 
@@ -14,7 +14,7 @@ enum-known-share c = search rules
 
 returns : tie.Need-returns
 unfolding Ieee.of_bits
-returns c = sym (ap shareFloat c.enum_told.given.1)
+returns c = sym (ap share_float c.enum_told.given.1)
 
 returns-2 : tie.Need-returns-2
 returns-2 c = search rules

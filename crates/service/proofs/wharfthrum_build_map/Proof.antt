@@ -2,7 +2,7 @@
 use mathlib.Core.Path.{ap, ◌∙◌}
 use borrow.Author.Rules.{rules}
 use Rattle.service.specs.Plain.{plain_of}
-use Rattle.service.proofs.Leaving.{left-refused, left-done}
+use Rattle.service.proofs.Leaving.{left_refused, left_done}
 use Rattle.service.proofs.wharfthrum_build_map.Statement.{statement}
 use Rattle.service.proofs.wharfthrum_build_map.Tie as tie
 
@@ -26,7 +26,7 @@ returns c =
     let d = c.before.before.before.before.before in
     let h = d.init-map.ensures in (
       c.plain.ensures ∙ ap plain_of h.reports.report,
-      (h.reports.slots, left-refused 4096 _ _ _ _ h.reports.report c.before.enum-told2.given.1),
+      (h.reports.slots, left_refused 4096 _ _ _ _ h.reports.report c.before.enum-told2.given.1),
     )
 
 store-requires : tie.Need-store-requires
@@ -43,7 +43,7 @@ returns-2 c =
     let d = c.before.before.before in
     let h = d.before.before.before.before.init-map.ensures in (
       c.plain2.ensures ∙ ap plain_of h.reports.report,
-      (h.reports.slots, left-done 4096 _ _ _ _ h.reports.report d.enum_told.given.1 h.map c.before.store.ensures),
+      (h.reports.slots, left_done 4096 _ _ _ _ h.reports.report d.enum_told.given.1 h.map c.before.store.ensures),
     )
 
 pub wharfthrum-build-map-spec : {M : Type 1} → statement M

@@ -1,6 +1,6 @@
 -- `wharfthrum_claim_late` makes the late claim on the map that it loads, and stores the map that the claim leaves. Assumes nothing.
 use borrow.Author.Rules.{rules}
-use Rattle.service.proofs.Leaving.{left-answer, left-slots, left-memory}
+use Rattle.service.proofs.Leaving.{left_answer, left_slots, left_memory}
 use Rattle.service.proofs.wharfthrum_claim_late.Statement.{statement}
 use Rattle.service.proofs.wharfthrum_claim_late.Tie as tie
 
@@ -27,8 +27,8 @@ returns c =
     let d = c.before.before.before.before.before in
     let loaded = d.before.before.load.ensures in
     let is = d.claim-late.ensures in (
-      left-answer 4096 _ _ _ _ loaded is c.number.ensures,
-      (left-slots 4096 _ _ _ _ loaded is, left-memory 4096 _ _ _ _ loaded is c.before.store.ensures),
+      left_answer 4096 _ _ _ _ loaded is c.number.ensures,
+      (left_slots 4096 _ _ _ _ loaded is, left_memory 4096 _ _ _ _ loaded is c.before.store.ensures),
     )
 
 pub wharfthrum-claim-late-spec : {M : Type 1} → statement M

@@ -1,7 +1,7 @@
 -- `wharfthrum_number` answers the number of the report under 512 slots.
 use mathlib.Core.Path.{ap, ◌∙◌}
 use borrow.Author.Rules.{rules}
-use Rattle.startup.specs.Report.{reportNumber}
+use Rattle.startup.specs.Report.{report_number}
 use Rattle.service.proofs.wharfthrum_number.Statement.{statement}
 use Rattle.service.proofs.wharfthrum_number.Tie as tie
 
@@ -18,7 +18,7 @@ cast-result : tie.Need-cast-result
 cast-result c = search rules
 
 returns : tie.Need-returns
-returns c = c.number.ensures ∙ ap reportNumber c.before.before.init.ensures.report
+returns c = c.number.ensures ∙ ap report_number c.before.before.init.ensures.report
 
 pub wharfthrum-number-spec : {M : Type 1} → statement M
 wharfthrum-number-spec =

@@ -6,7 +6,7 @@ use Prim.Native.Nat.{◌-◌}
 use native.Mathlib.Nat.{le_of_lt}
 use native.Mathlib.Omega.{arith}
 use borrow.Author.Rules.{rules}
-use Rattle.sheet.proofs.Counting.{meet-some, pages-few, Counting, begins, passes, misses, adds, counted-all}
+use Rattle.sheet.proofs.Counting.{meet_some, pages_few, Counting, begins, passes, misses, adds, counted_all}
 use Rattle.sheet.proofs.free_pages.Statement.{statement}
 use Rattle.sheet.proofs.free_pages.Tie as tie
 
@@ -47,7 +47,7 @@ enum-known-part : tie.Need-enum-known-part invariant-loop decreases-loop
 enum-known-part c = search rules
 
 sub-pages : tie.Need-overflow-sub-pages invariant-loop decreases-loop
-sub-pages c = le_of_lt (meet-some _ _ _ (sym c.before.before.part.given.1 ∙ c.before.before.before.before.intersect.ensures))
+sub-pages c = le_of_lt (meet_some _ _ _ (sym c.before.before.part.given.1 ∙ c.before.before.before.before.intersect.ensures))
 
 add-pages : tie.Need-overflow-add-pages invariant-loop decreases-loop
 add-pages c = omega arith
@@ -65,14 +65,14 @@ loop-again : tie.Need-loop-preserved invariant-loop decreases-loop
 loop-again c =
     let inv = c.before.before.loop.invariant in
     let lt = c.before.loop-test.true in
-    ⊎_elim (λ w. adds inv lt w.0.taken w.3.given.0.0 (sym w.3.given.1 ∙ w.1.ensures) (pages-few 4096 (omega arith) _ _ (omega (arith, w.5.given))) w.6)
+    ⊎_elim (λ w. adds inv lt w.0.taken w.3.given.0.0 (sym w.3.given.1 ∙ w.1.ensures) (pages_few 4096 (omega arith) _ _ (omega (arith, w.5.given))) w.6)
     (⊎_elim (λ w. misses inv lt w.0.taken (sym w.3.given.1 ∙ w.1.ensures) w.4)
     (λ w. passes inv lt w.0.left w.1))
     c.if1.branch
 
 returns : tie.Need-returns invariant-loop decreases-loop
 returns c =
-    counted-all _ _ _ c.before.before.before.before.before.limits.ensures c.before.loop.invariant c.loop-test.false
+    counted_all _ _ _ c.before.before.before.before.before.limits.ensures c.before.loop.invariant c.loop-test.false
 
 pub free-pages-spec : {M : Type 1} → statement M
 free-pages-spec =

@@ -3,7 +3,7 @@
 use mathlib.Core.Path.{sym, ap, ◌∙◌}
 use borrow.Author.Rules.{rules}
 use Rattle.sheet.specs.Share.{bits_of}
-use Rattle.sheet.proofs.ShareLaws.{share-number}
+use Rattle.sheet.proofs.ShareLaws.{share_number}
 use Rattle.sheet.proofs.share_bits.Statement.{statement}
 use Rattle.sheet.proofs.share_bits.Tie as tie
 
@@ -19,7 +19,7 @@ enum-known-x c = search rules
 float-to-bits-t6 : tie.Need-float-to-bits-t6
 float-to-bits-t6 c =
     let a = c.before.before.before.before.args in
-    share-number a.free a.usable c.before.x.given.0.0 (sym c.before.x.given.1 ∙ c.before.before.before.share-of.ensures)
+    share_number a.free a.usable c.before.x.given.0.0 (sym c.before.x.given.1 ∙ c.before.before.before.share-of.ensures)
 
 returns : tie.Need-returns
 returns c = ap bits_of (sym c.enum_told.given.1 ∙ c.before.before.share-of.ensures)

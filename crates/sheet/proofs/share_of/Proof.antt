@@ -4,7 +4,7 @@ use mathlib.Core.Path.{sym}
 use native.Mathlib.Omega.{arith}
 use borrow.Author.Rules.{rules}
 use Rattle.sheet.specs.Share.{quotient}
-use Rattle.sheet.proofs.ShareLaws.{exact, share-some}
+use Rattle.sheet.proofs.ShareLaws.{exact, share_some}
 use Rattle.sheet.proofs.share_of.Statement.{statement}
 use Rattle.sheet.proofs.share_of.Tie as tie
 
@@ -27,7 +27,7 @@ returns-2 : tie.Need-returns-2
 unfolding quotient
 returns-2 c =
     rw (c.before.before.before.counted-as.ensures, c.before.counted-as2.ensures)
-    (sym (share-some c.before.before.before.before.before.args.free c.before.before.before.before.before.args.usable (omega arith)))
+    (sym (share_some c.before.before.before.before.before.args.free c.before.before.before.before.before.args.usable (omega arith)))
 
 pub share-of-spec : {M : Type 1} → statement M
 share-of-spec =

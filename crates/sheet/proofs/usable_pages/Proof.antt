@@ -3,13 +3,13 @@
 use Prim.Native.Nat.{◌-◌}
 use native.Mathlib.Omega.{arith}
 use borrow.Author.Rules.{rules}
-use Rattle.sheet.specs.Sheet.{slotsTo}
+use Rattle.sheet.specs.Sheet.{slots_to}
 use Rattle.sheet.proofs.Summing.{Summing, begins, ends, adds}
 use Rattle.sheet.proofs.usable_pages.Statement.{statement}
 use Rattle.sheet.proofs.usable_pages.Tie as tie
 
 abbrev invariant-loop : tie.invariant-loop
-invariant-loop slots n pages₀ i₀ pages i = Summing 4096 slots (slotsTo slots n) pages i
+invariant-loop slots n pages₀ i₀ pages i = Summing 4096 slots (slots_to slots n) pages i
 
 abbrev decreases-loop : tie.decreases-loop
 decreases-loop slots n pages₀ i₀ pages i = n - i

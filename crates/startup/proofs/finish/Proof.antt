@@ -1,7 +1,7 @@
 -- `finish` builds the areas, and counts the pages of the map and of the finished table.
 use borrow.Author.Rules.{rules}
 use Rattle.page.proofs.Laws.{page}
-use Rattle.startup.proofs.ReportLaws.{finish-full, finish-done}
+use Rattle.startup.proofs.ReportLaws.{finish_full, finish_done}
 use Rattle.startup.proofs.finish.Statement.{statement}
 use Rattle.startup.proofs.finish.Tie as tie
 
@@ -27,7 +27,7 @@ same_length : tie.Need-same-length
 same_length c = search rules
 
 returns : tie.Need-returns
-returns c = finish-full 4096 _ _ _ _ _ _ c.before.before.before.before.build.ensures c.enum_told.given.1
+returns c = finish_full 4096 _ _ _ _ _ _ c.before.before.before.before.build.ensures c.enum_told.given.1
 
 same-length-2 : tie.Need-same-length-2
 same-length-2 c = search rules
@@ -38,7 +38,7 @@ returns-2 c =
     let f = u.before.before in
     let k = f.before.before in
     let t = k.before.before.before.before in
-    finish-done 4096 _ _ _ _ _ _ t.build.ensures page t.before.before.before.requires _ k.n.given.1 _ _ _ f.free-pages.ensures u.usable-pages.ensures c.page-sheet.ensures
+    finish_done 4096 _ _ _ _ _ _ t.build.ensures page t.before.before.before.requires _ k.n.given.1 _ _ _ f.free_pages_lem.ensures u.usable_pages.ensures c.page-sheet.ensures
 
 pub finish_spec : {M : Type 1} → statement M
 finish_spec =

@@ -2,9 +2,9 @@
 use mathlib.Core.Path.{sym, ◌∙◌}
 use borrow.Author.Rules.{rules}
 use Rattle.page.proofs.Laws.{page}
-use Rattle.memory.proofs.MapLaws.{blank-made}
+use Rattle.memory.proofs.MapLaws.{blank_made}
 use Rattle.memory.proofs.Refusing.{refused}
-use Rattle.startup.proofs.SourceLaws.{list-made, treed-made, unknown-sources, faulty-sources, full-sources, all-sources}
+use Rattle.startup.proofs.SourceLaws.{list_made, treed_made, unknown_sources, faulty_sources, full_sources, all_sources}
 use Rattle.startup.proofs.register_memory_from_kernel_args.Statement.{statement}
 use Rattle.startup.proofs.register_memory_from_kernel_args.Tie as tie
 
@@ -18,7 +18,7 @@ empty-requires : tie.Need-empty-requires
 empty-requires c κs = search rules
 
 register-bootloader-areas-requires : tie.Need-register-bootloader-areas-requires
-register-bootloader-areas-requires c κs = rw c.empty.ensures (blank-made 4096)
+register-bootloader-areas-requires c κs = rw c.empty.ensures (blank_made 4096)
 
 number-requires : tie.Need-number-requires
 number-requires c κs = search rules
@@ -30,14 +30,14 @@ returns : tie.Need-returns
 returns c =
     let w = c.before.before.before in
     c.rejected.ensures
-    ∙ unknown-sources 4096 _ _ _ _ _ _ w.before.empty.ensures
+    ∙ unknown_sources 4096 _ _ _ _ _ _ w.before.empty.ensures
     w.before.before.before.part.ensures w.before.before.part2.ensures w.register-bootloader-areas.ensures
     (sym c.before.before.number.ensures ∙ c.before.if1.true)
 
 register-devicetree-requires : tie.Need-register-devicetree-requires
 register-devicetree-requires c κs =
     let w = c.before.before in
-    list-made 4096 page _ _ _ w.before.empty.ensures w.register-bootloader-areas.ensures
+    list_made 4096 page _ _ _ w.before.empty.ensures w.register-bootloader-areas.ensures
 
 tree-verdict-requires : tie.Need-tree-verdict-requires
 tree-verdict-requires c κs = search rules
@@ -64,7 +64,7 @@ returns-2 c =
     let k = t.before in
     let w = k.before.before.before in
     c.rejected3.ensures
-    ∙ full-sources 4096 _ _ _ _ _ _ w.before.empty.ensures
+    ∙ full_sources 4096 _ _ _ _ _ _ w.before.empty.ensures
     w.before.before.before.part.ensures w.before.before.part2.ensures w.register-bootloader-areas.ensures
     (λ e. k.before.if1.false (k.before.before.number.ensures ∙ e)) _ k.register-devicetree.ensures
     (sym t.tree-verdict.ensures ∙ m.before.enum_told.given.1) (refused w.register-bootloader-areas.result.answer m.match2.keys2)
@@ -73,7 +73,7 @@ register-pairs-requires : tie.Need-register-pairs-requires
 register-pairs-requires c κs =
     let k = c.before.before.before.before.before in
     let w = k.before.before.before in
-    treed-made 4096 page _ _ _ _ (list-made 4096 page _ _ _ w.before.empty.ensures w.register-bootloader-areas.ensures) k.register-devicetree.ensures
+    treed_made 4096 page _ _ _ _ (list_made 4096 page _ _ _ w.before.empty.ensures w.register-bootloader-areas.ensures) k.register-devicetree.ensures
 
 returns-3 : tie.Need-returns-3
 returns-3 c =
@@ -82,7 +82,7 @@ returns-3 c =
     let k = t.before in
     let w = k.before.before.before in
     c.rejected2.ensures
-    ∙ faulty-sources 4096 _ _ _ _ _ _ w.before.empty.ensures
+    ∙ faulty_sources 4096 _ _ _ _ _ _ w.before.empty.ensures
     w.before.before.before.part.ensures w.before.before.part2.ensures w.register-bootloader-areas.ensures
     (λ e. k.before.if1.false (k.before.before.number.ensures ∙ e)) _ k.register-devicetree.ensures
     _ (sym t.tree-verdict.ensures ∙ m.refusal.given.1)
@@ -94,7 +94,7 @@ returns-4 c =
     let k = t.before in
     let w = k.before.before.before in
     c.register-pairs.ensures
-    ∙ all-sources 4096 _ _ _ _ _ _ w.before.empty.ensures
+    ∙ all_sources 4096 _ _ _ _ _ _ w.before.empty.ensures
     w.before.before.before.part.ensures w.before.before.part2.ensures w.register-bootloader-areas.ensures
     (λ e. k.before.if1.false (k.before.before.number.ensures ∙ e)) _ k.register-devicetree.ensures
     (sym t.tree-verdict.ensures ∙ m.before.before.enum_told.given.1) m.enum-told2.given.1

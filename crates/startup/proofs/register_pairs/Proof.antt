@@ -3,9 +3,9 @@ use mathlib.Core.Path.{ap, ◌∙◌}
 use borrow.Author.Rules.{rules}
 use Rattle.memory.specs.declared.Registered.{Registered}
 use Rattle.memory.specs.Map.{left}
-use Rattle.memory.specs.Run.{isDone}
+use Rattle.memory.specs.Run.{is_done}
 use Rattle.memory.proofs.Refusing.{refused}
-use Rattle.startup.proofs.SourceLaws.{ended-done, ended-refused}
+use Rattle.startup.proofs.SourceLaws.{ended_done, ended_refused}
 use Rattle.startup.proofs.register_pairs.Statement.{statement}
 use Rattle.startup.proofs.register_pairs.Tie as tie
 
@@ -23,13 +23,13 @@ returns c =
     let m = c.before in
     let g = m.before.register-pairs-in in
     let r : Registered = left g.result g.new.0 g.new.1.0 g.new.1.1.0 in
-    rw (← g.ensures) (c.rejected.ensures ∙ ended-refused r (refused g.result.answer m.match.keys2))
+    rw (← g.ensures) (c.rejected.ensures ∙ ended_refused r (refused g.result.answer m.match.keys2))
 
 returns-2 : tie.Need-returns-2
 returns-2 c =
     let g = c.before.before.register-pairs-in in
     let r : Registered = left g.result g.new.0 g.new.1.0 g.new.1.1.0 in
-    rw (← g.ensures) (ended-done r (ap isDone c.enum_told.given.1))
+    rw (← g.ensures) (ended_done r (ap is_done c.enum_told.given.1))
 
 pub register-pairs-spec : {M : Type 1} → statement M
 register-pairs-spec =

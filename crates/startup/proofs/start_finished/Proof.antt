@@ -1,5 +1,5 @@
 -- `start_finished` keeps the map only beside areas (StartLaws). Assumes nothing.
-use Rattle.startup.proofs.StartLaws.{start-refused, start-done}
+use Rattle.startup.proofs.StartLaws.{start_refused, start_done}
 use borrow.Author.Rules.{rules}
 use Rattle.startup.proofs.start_finished.Statement.{statement}
 use Rattle.startup.proofs.start_finished.Tie as tie
@@ -20,13 +20,13 @@ same_length : tie.Need-same-length
 same_length c = search rules
 
 returns : tie.Need-returns
-returns c = start-refused 4096 _ _ _ _ _ _ c.before.before.before.before.before.before.finish.ensures _ c.before.before.report.given.1 _ c.not-started.ensures
+returns c = start_refused 4096 _ _ _ _ _ _ c.before.before.before.before.before.before.finish.ensures _ c.before.before.report.given.1 _ c.not-started.ensures
 
 same-length-2 : tie.Need-same-length-2
 same-length-2 c = search rules
 
 returns-2 : tie.Need-returns-2
-returns-2 c = start-done 4096 _ _ _ _ _ _ c.before.before.before.before.finish.ensures _ _ c.enum_told.given.1
+returns-2 c = start_done 4096 _ _ _ _ _ _ c.before.before.before.before.finish.ensures _ _ c.enum_told.given.1
 
 pub start-finished-spec : {M : Type 1} → statement M
 start-finished-spec =

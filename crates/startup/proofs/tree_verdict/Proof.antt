@@ -1,7 +1,7 @@
 -- `tree_verdict` goes by the cases of a tree's answer.
 use mathlib.Core.Path.{ap, sym}
 use borrow.Author.Rules.{rules}
-use Rattle.startup.specs.Verdict.{treeFault}
+use Rattle.startup.specs.Verdict.{tree_fault}
 use Rattle.startup.proofs.tree_verdict.Statement.{statement}
 use Rattle.startup.proofs.tree_verdict.Tie as tie
 
@@ -30,22 +30,22 @@ returns : tie.Need-returns
 returns c = search rules
 
 returns-2 : tie.Need-returns-2
-returns-2 c = sym (ap treeFault c.enum-told2.given.1)
+returns-2 c = sym (ap tree_fault c.enum-told2.given.1)
 
 returns-3 : tie.Need-returns-3
-returns-3 c = sym (ap treeFault c.enum-told3.given.1)
+returns-3 c = sym (ap tree_fault c.enum-told3.given.1)
 
 returns-4 : tie.Need-returns-4
-returns-4 c = sym (ap treeFault c.enum-told4.given.1)
+returns-4 c = sym (ap tree_fault c.enum-told4.given.1)
 
 returns-5 : tie.Need-returns-5
-returns-5 c = sym (ap treeFault c.enum-told5.given.1)
+returns-5 c = sym (ap tree_fault c.enum-told5.given.1)
 
 returns-6 : tie.Need-returns-6
-returns-6 c = sym (ap treeFault c.enum-told6.given.1)
+returns-6 c = sym (ap tree_fault c.enum-told6.given.1)
 
 returns-7 : tie.Need-returns-7
-returns-7 c = sym (ap treeFault c.enum-told7.given.1)
+returns-7 c = sym (ap tree_fault c.enum-told7.given.1)
 
 pub tree-verdict-spec : {M : Type 1} → statement M
 tree-verdict-spec =

@@ -1,7 +1,7 @@
 -- `stdout::alias_node` meets its contract: the node at the path that is the alias's string. Assumes nothing.
 use mathlib.Core.Path.{◌∙◌}
 use Rattle.stdout.specs.Stdout.{aliased}
-use Rattle.stdout.proofs.StdoutLaws.{path-head, string-nowhere, string-missing, string-here}
+use Rattle.stdout.proofs.StdoutLaws.{path_head, string_nowhere, string_missing, string_here}
 use borrow.Author.Rules.{rules}
 use Rattle.stdout.proofs.alias_node.Statement.{statement}
 use Rattle.stdout.proofs.alias_node.Tie as tie
@@ -21,7 +21,7 @@ enum_told c = search rules
 returns : tie.Need-returns
 returns c =
     let s = c.before.before in
-    string-nowhere _ _ _ s.before.before.before.before.before.requires _ _ _ s.subnode.ensures aliased c.enum_told.given.1
+    string_nowhere _ _ _ s.before.before.before.before.before.requires _ _ _ s.subnode.ensures aliased c.enum_told.given.1
 
 string-of-requires : tie.Need-string-of-requires
 string-of-requires c κs = search rules
@@ -37,7 +37,7 @@ returns-2 c =
     let t = c.before.before in
     let a = t.before.before in
     let s = a.before.before in
-    string-missing _ _ _ s.before.before.before.before.before.requires _ _ _ s.subnode.ensures aliased _ a.aliases.given.1 _ t.string-of.ensures c.enum-told2.given.1
+    string_missing _ _ _ s.before.before.before.before.before.requires _ _ _ s.subnode.ensures aliased _ a.aliases.given.1 _ t.string-of.ensures c.enum-told2.given.1
 
 part-requires : tie.Need-part-requires
 part-requires c κs = search rules
@@ -52,8 +52,8 @@ returns-3 c =
     let t = h.before.before in
     let a = t.before.before in
     let s = a.before.before in
-    c.path-offset.ensures ∙ path-head _ _ _ ∙
-    string-here _ _ _ s.before.before.before.before.before.requires _ _ _ s.subnode.ensures aliased _ a.aliases.given.1 _ t.string-of.ensures _ _ _ h.at.given.1 p.part.ensures
+    c.path-offset.ensures ∙ path_head _ _ _ ∙
+    string_here _ _ _ s.before.before.before.before.before.requires _ _ _ s.subnode.ensures aliased _ a.aliases.given.1 _ t.string-of.ensures _ _ _ h.at.given.1 p.part.ensures
 
 pub alias-node-spec : {M : Type 1} → statement M
 alias-node-spec =

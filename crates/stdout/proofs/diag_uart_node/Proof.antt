@@ -1,7 +1,7 @@
--- `stdout::diag_uart_node` meets its contract: the node of the name that /chosen's `stdout-path` has up to a colon. Assumes nothing.
+-- `stdout::diag_uart_node` meets its contract: the node of the name that /chosen's `stdout_path` has up to a colon. Assumes nothing.
 use mathlib.Core.Path.{◌∙◌}
-use Rattle.stdout.specs.Stdout.{stdoutBy, stdoutIn}
-use Rattle.stdout.proofs.StdoutLaws.{root_is, stdout-rootless, stdout-named, string-nowhere, string-missing, string-here}
+use Rattle.stdout.specs.Stdout.{stdout_by, stdout_in}
+use Rattle.stdout.proofs.StdoutLaws.{root_is, stdout_rootless, stdout_named, string_nowhere, string_missing, string_here}
 use borrow.Author.Rules.{rules}
 use Rattle.stdout.proofs.diag_uart_node.Statement.{statement}
 use Rattle.stdout.proofs.diag_uart_node.Tie as tie
@@ -19,7 +19,7 @@ enum_told : tie.Need-enum-told
 enum_told c = search rules
 
 returns : tie.Need-returns
-returns c = stdout-rootless _ _ _ c.before.before.path-offset.ensures c.enum_told.given.1
+returns c = stdout_rootless _ _ _ c.before.before.path-offset.ensures c.enum_told.given.1
 
 slice-aggregate-subnode : tie.Need-slice-aggregate-subnode
 slice-aggregate-subnode c = search rules
@@ -34,11 +34,11 @@ enum-told-2 : tie.Need-enum-told-2
 enum-told-2 c = search rules
 
 returns-2 : tie.Need-returns-2
-unfolding stdoutIn
+unfolding stdout_in
 returns-2 c =
     let s = c.before.before in
     let r = s.before.before.before in
-    string-nowhere _ _ _ (root_is _ _ _ r.before.before.path-offset.ensures _ r.root.given.1) _ _ _ s.subnode.ensures stdoutBy c.enum-told2.given.1
+    string_nowhere _ _ _ (root_is _ _ _ r.before.before.path-offset.ensures _ r.root.given.1) _ _ _ s.subnode.ensures stdout_by c.enum-told2.given.1
 
 slice-aggregate-string-of : tie.Need-slice-aggregate-string-of
 slice-aggregate-string-of c = search rules
@@ -53,13 +53,13 @@ enum-told-3 : tie.Need-enum-told-3
 enum-told-3 c = search rules
 
 returns-3 : tie.Need-returns-3
-unfolding stdoutIn
+unfolding stdout_in
 returns-3 c =
     let t = c.before.before in
     let a = t.before.before.before in
     let s = a.before.before in
     let r = s.before.before.before in
-    string-missing _ _ _ (root_is _ _ _ r.before.before.path-offset.ensures _ r.root.given.1) _ _ _ s.subnode.ensures stdoutBy _ a.chosen.given.1 _ t.string-of.ensures c.enum-told3.given.1
+    string_missing _ _ _ (root_is _ _ _ r.before.before.path-offset.ensures _ r.root.given.1) _ _ _ s.subnode.ensures stdout_by _ a.chosen.given.1 _ t.string-of.ensures c.enum-told3.given.1
 
 part-requires : tie.Need-part-requires
 part-requires c κs = search rules
@@ -78,7 +78,7 @@ node-named-requires c κs =
     root_is _ _ _ r.before.before.path-offset.ensures _ r.root.given.1
 
 returns-4 : tie.Need-returns-4
-unfolding stdoutIn
+unfolding stdout_in
 returns-4 c =
     let b = c.before.before in
     let h = b.before.before.before in
@@ -86,8 +86,8 @@ returns-4 c =
     let a = t.before.before.before in
     let s = a.before.before in
     let r = s.before.before.before in
-    c.node-named.ensures ∙ stdout-named _ _ _ _ b.byte-from.ensures c.before.part2.ensures ∙
-    string-here _ _ _ (root_is _ _ _ r.before.before.path-offset.ensures _ r.root.given.1) _ _ _ s.subnode.ensures stdoutBy _ a.chosen.given.1 _ t.string-of.ensures _ _ _ h.at.given.1 b.before.part.ensures
+    c.node-named.ensures ∙ stdout_named _ _ _ _ b.byte-from.ensures c.before.part2.ensures ∙
+    string_here _ _ _ (root_is _ _ _ r.before.before.path-offset.ensures _ r.root.given.1) _ _ _ s.subnode.ensures stdout_by _ a.chosen.given.1 _ t.string-of.ensures _ _ _ h.at.given.1 b.before.part.ensures
 
 pub diag-uart-node-spec : {M : Type 1} → statement M
 diag-uart-node-spec =

@@ -1,7 +1,7 @@
 -- `stdout::diag_uart_range` meets its contract: where the stdout node has `compatible`, its first `reg` entry, translated. Assumes nothing.
 use mathlib.Core.Path.{sym, ◌∙◌, ap}
-use Rattle.stdout.specs.Stdout.{uartAt}
-use Rattle.stdout.proofs.StdoutLaws.{uart-nowhere, uart-incompatible, uart-translated}
+use Rattle.stdout.specs.Stdout.{uart_at}
+use Rattle.stdout.proofs.StdoutLaws.{uart_nowhere, uart_incompatible, uart_translated}
 use borrow.Author.Rules.{rules}
 use Rattle.stdout.proofs.diag_uart_range.Statement.{statement}
 use Rattle.stdout.proofs.diag_uart_range.Tie as tie
@@ -16,7 +16,7 @@ enum_told : tie.Need-enum-told
 enum_told c = search rules
 
 returns : tie.Need-returns
-returns c = uart-nowhere _ _ _ c.before.before.diag-uart-node.ensures c.enum_told.given.1
+returns c = uart_nowhere _ _ _ c.before.before.diag-uart-node.ensures c.enum_told.given.1
 
 slice-aggregate-getprop : tie.Need-slice-aggregate-getprop
 slice-aggregate-getprop c = search rules
@@ -34,7 +34,7 @@ returns-2 : tie.Need-returns-2
 returns-2 c =
     let p = c.before.before in
     let u = p.before.before.before in
-    uart-incompatible _ _ _ u.before.before.diag-uart-node.ensures _ u.uart.given.1 _ p.getprop.ensures c.enum-told3.given.1
+    uart_incompatible _ _ _ u.before.before.diag-uart-node.ensures _ u.uart.given.1 _ p.getprop.ensures c.enum-told3.given.1
 
 translate-mmio-address-requires : tie.Need-translate-mmio-address-requires
 translate-mmio-address-requires c κs = search rules
@@ -51,8 +51,8 @@ returns-3 c =
     let i = t.before in
     let p = i.before.before in
     let u = p.before.before.before in
-    ap uartAt (sym c.before.region.given.1) ∙
-    uart-translated _ _ _ u.before.before.diag-uart-node.ensures _ u.uart.given.1 _ p.getprop.ensures _ _ _ i.enum-told2.given.1 t.translate-mmio-address.ensures
+    ap uart_at (sym c.before.region.given.1) ∙
+    uart_translated _ _ _ u.before.before.diag-uart-node.ensures _ u.uart.given.1 _ p.getprop.ensures _ _ _ i.enum-told2.given.1 t.translate-mmio-address.ensures
 
 returns-4 : tie.Need-returns-4
 returns-4 c =
@@ -60,8 +60,8 @@ returns-4 c =
     let i = t.before in
     let p = i.before.before in
     let u = p.before.before.before in
-    ap uartAt (sym c.enum-told4.given.1) ∙
-    uart-translated _ _ _ u.before.before.diag-uart-node.ensures _ u.uart.given.1 _ p.getprop.ensures _ _ _ i.enum-told2.given.1 t.translate-mmio-address.ensures
+    ap uart_at (sym c.enum-told4.given.1) ∙
+    uart_translated _ _ _ u.before.before.diag-uart-node.ensures _ u.uart.given.1 _ p.getprop.ensures _ _ _ i.enum-told2.given.1 t.translate-mmio-address.ensures
 
 pub diag-uart-range-spec : {M : Type 1} → statement M
 diag-uart-range-spec =

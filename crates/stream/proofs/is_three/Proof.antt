@@ -1,5 +1,5 @@
 -- `is_three` compares one number after the other.
-use Rattle.stream.proofs.CaseLaws.{first-other, second-other, third-tells}
+use Rattle.stream.proofs.CaseLaws.{first_other, second_other, third-tells}
 use Rattle.std.proofs.Common.{rules}
 use Rattle.stream.proofs.is_three.Statement.{statement}
 use Rattle.stream.proofs.is_three.Tie as tie
@@ -8,13 +8,13 @@ word-requires : tie.Need-word-requires
 word-requires c κs = search rules
 
 returns : tie.Need-returns
-returns c = first-other c.before.before.before.args.space.now _ _ _ _ _ c.before.word.ensures c.if1.true
+returns c = first_other c.before.before.before.args.space.now _ _ _ _ _ c.before.word.ensures c.if1.true
 
 nth-requires : tie.Need-nth-requires
 nth-requires c κs = search rules
 
 returns-2 : tie.Need-returns-2
-returns-2 c = second-other c.before.before.before.before.before.args.space.now _ _ _ _ _ c.before.nth.ensures c.if2.true
+returns-2 c = second_other c.before.before.before.before.before.args.space.now _ _ _ _ _ c.before.nth.ensures c.if2.true
 
 nth-requires-2 : tie.Need-nth-requires-2
 nth-requires-2 c κs = search rules

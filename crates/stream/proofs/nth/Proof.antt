@@ -1,5 +1,5 @@
 -- `nth` reads at the place that `past` gives.
-use Rattle.stream.proofs.CaseLaws.{number-ahead}
+use Rattle.stream.proofs.CaseLaws.{number_ahead}
 use Rattle.std.proofs.Common.{rules}
 use Rattle.stream.proofs.nth.Statement.{statement}
 use Rattle.stream.proofs.nth.Tie as tie
@@ -11,7 +11,7 @@ word-requires : tie.Need-word-requires
 word-requires c κs = search rules
 
 returns : tie.Need-returns
-returns c = number-ahead c.before.before.before.args.space.now _ _ _ _ c.before.past.ensures c.word.ensures
+returns c = number_ahead c.before.before.before.args.space.now _ _ _ _ c.before.past.ensures c.word.ensures
 
 pub nth-spec : {M : Type 1} → statement M
 nth-spec = tie.close (tie.spec past-requires word-requires returns)

@@ -4,7 +4,7 @@ use Prim.Native.Nat.{◌+◌, ◌-◌}
 use native.Mathlib.Omega.{arith}
 use borrow.Author.Rules.{rules}
 use mathlib.Core.Path.{sym}
-use Rattle.text.proofs.StringLaws.{contains-short, Sought, sought-all, sought-here, sought-on, sought-nowhere}
+use Rattle.text.proofs.StringLaws.{contains_short, Sought, sought_all, sought_here, sought_on, sought_nowhere}
 use Rattle.text.proofs.holds.Statement.{statement}
 use Rattle.text.proofs.holds.Tie as tie
 
@@ -15,13 +15,13 @@ abbrev decreases-loop : tie.decreases-loop
 decreases-loop text part last i₀ i = last + 1 - i
 
 returns : tie.Need-returns invariant-loop decreases-loop
-returns c = sym (contains-short _ _ (omega arith))
+returns c = sym (contains_short _ _ (omega arith))
 
 sub-last : tie.Need-overflow-sub-last invariant-loop decreases-loop
 sub-last c = omega arith
 
 loop-holds : tie.Need-loop-init invariant-loop decreases-loop
-loop-holds c = sought-all _ _
+loop-holds c = sought_all _ _
 
 part-requires : tie.Need-part-requires invariant-loop decreases-loop
 part-requires c κs = search rules
@@ -32,7 +32,7 @@ same-requires c κs = search rules
 returns-2 : tie.Need-returns-2 invariant-loop decreases-loop
 returns-2 c =
     let s = c.before in
-    sought-here _ _ _ s.before.before.before.loop.invariant _ _ s.before.part.ensures s.same.ensures c.if2.true
+    sought_here _ _ _ s.before.before.before.loop.invariant _ _ s.before.part.ensures s.same.ensures c.if2.true
 
 add-i : tie.Need-overflow-add-i invariant-loop decreases-loop
 add-i c = omega arith
@@ -43,10 +43,10 @@ loop-less c = omega arith
 loop-again : tie.Need-loop-preserved invariant-loop decreases-loop
 loop-again c =
     let s = c.before in
-    sought-on _ _ _ s.before.before.before.loop.invariant _ _ s.before.part.ensures s.same.ensures c.if2.false
+    sought_on _ _ _ s.before.before.before.loop.invariant _ _ s.before.part.ensures s.same.ensures c.if2.false
 
 returns-3 : tie.Need-returns-3 invariant-loop decreases-loop
-returns-3 c = sought-nowhere _ _ _ c.before.loop.invariant (omega arith) (omega arith)
+returns-3 c = sought_nowhere _ _ _ c.before.loop.invariant (omega arith) (omega arith)
 
 pub holds-spec : {M : Type 1} → statement M
 holds-spec =

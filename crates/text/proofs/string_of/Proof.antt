@@ -1,5 +1,5 @@
 -- `text::string_of` meets its contract: where the property stands, its value up to the end that is found. Assumes nothing.
-use Rattle.text.specs.Strings.{stringAt}
+use Rattle.text.specs.Strings.{string_at}
 use borrow.Author.Rules.{rules}
 use Rattle.text.proofs.string_of.Statement.{statement}
 use Rattle.text.proofs.string_of.Tie as tie
@@ -14,7 +14,7 @@ enum_told : tie.Need-enum-told
 enum_told c = search rules
 
 returns : tie.Need-returns
-unfolding stringAt
+unfolding string_at
 returns c = rw (← c.before.before.getprop.ensures, c.enum_told.given.1)
 
 part-requires : tie.Need-part-requires
@@ -30,14 +30,14 @@ enum-told-2 : tie.Need-enum-told-2
 enum-told-2 c = search rules
 
 returns-2 : tie.Need-returns-2
-unfolding stringAt
+unfolding string_at
 returns-2 c =
     let t = c.before.before.before in
     let g = t.before.before.before in
     rw (← g.before.before.getprop.ensures, g.at.given.1, ← t.before.part.ensures, ← t.text.ensures, c.before.end.given.1)
 
 returns-3 : tie.Need-returns-3
-unfolding stringAt
+unfolding string_at
 returns-3 c =
     let t = c.before.before in
     let g = t.before.before.before in

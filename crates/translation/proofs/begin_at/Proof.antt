@@ -1,6 +1,6 @@
 -- `translation::begin_at` meets its contract: the given region, or the first row of the `reg` that the node at hand has, by
--- StepLaws.begins-row and begins-not. Assumes nothing.
-use Rattle.translation.proofs.StepLaws.{begins-row, begins-not}
+-- StepLaws.begins_row and begins-not. Assumes nothing.
+use Rattle.translation.proofs.StepLaws.{begins_row, begins_not}
 use borrow.Author.Rules.{rules}
 use Rattle.translation.proofs.begin_at.Statement.{statement}
 use Rattle.translation.proofs.begin_at.Tie as tie
@@ -46,26 +46,26 @@ returns-2 c =
     let r = c.before.before.before in
     let p = r.before in
     let g = p.before.before in
-    begins-row _ _ _ _ _ _ _ g.before.before.before.before.enum_told.given.1 _ g.before.before.getprop.ensures _ _ _ _ _ g.at.given.1 p.part.ensures r.reg_row.ensures c.before.region.given.1
+    begins_row _ _ _ _ _ _ _ g.before.before.before.before.enum_told.given.1 _ g.before.before.getprop.ensures _ _ _ _ _ g.at.given.1 p.part.ensures r.reg_row.ensures c.before.region.given.1
 
 returns-3 : tie.Need-returns-3
 returns-3 c =
     let r = c.before.before in
     let p = r.before in
     let g = p.before.before in
-    begins-row _ _ _ _ _ _ _ g.before.before.before.before.enum_told.given.1 _ g.before.before.getprop.ensures _ _ _ _ _ g.at.given.1 p.part.ensures r.reg_row.ensures c.enum-told2.given.1
+    begins_row _ _ _ _ _ _ _ g.before.before.before.before.enum_told.given.1 _ g.before.before.getprop.ensures _ _ _ _ _ g.at.given.1 p.part.ensures r.reg_row.ensures c.enum-told2.given.1
 
 returns-4 : tie.Need-returns-4
 returns-4 c =
     let r = c.before.before in
     let p = r.before in
     let g = p.before.before in
-    begins-row _ _ _ _ _ _ _ g.before.before.before.before.enum_told.given.1 _ g.before.before.getprop.ensures _ _ _ _ _ g.at.given.1 p.part.ensures r.reg_row.ensures c.enum-told3.given.1
+    begins_row _ _ _ _ _ _ _ g.before.before.before.before.enum_told.given.1 _ g.before.before.getprop.ensures _ _ _ _ _ g.at.given.1 p.part.ensures r.reg_row.ensures c.enum-told3.given.1
 
 returns-5 : tie.Need-returns-5
 returns-5 c =
     let g = c.before.before in
-    begins-not _ _ _ _ _ _ _ g.before.before.enum_told.given.1 _ g.getprop.ensures c.enum-told4.given.1
+    begins_not _ _ _ _ _ _ _ g.before.before.enum_told.given.1 _ g.getprop.ensures c.enum-told4.given.1
 
 pub begin-at-spec : {M : Type 1} → statement M
 begin-at-spec =

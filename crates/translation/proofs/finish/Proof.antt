@@ -1,7 +1,7 @@
--- `translation::finish` meets its contract: the whole region has to lie below 2^64, by StepLaws.ends-below and ends-past. Assumes nothing.
+-- `translation::finish` meets its contract: the whole region has to lie below 2^64, by StepLaws.ends_below and ends-past. Assumes nothing.
 use Rattle.windows.specs.Window.{reach}
 use Rattle.translation.specs.Search.{finished}
-use Rattle.translation.proofs.StepLaws.{ends-below, ends-past}
+use Rattle.translation.proofs.StepLaws.{ends_below, ends_past}
 use borrow.Author.Rules.{rules}
 use Rattle.translation.proofs.finish.Statement.{statement}
 use Rattle.translation.proofs.finish.Tie as tie
@@ -11,7 +11,7 @@ enum-known-found c = search rules
 
 returns : tie.Need-returns
 unfolding reach
-returns c = ends-below _ _ _ _ c.before.before.found.given.1 (search rules)
+returns c = ends_below _ _ _ _ c.before.before.found.given.1 (search rules)
 
 sub-if2 : tie.Need-overflow-sub-if2
 sub-if2 c = search rules
@@ -21,7 +21,7 @@ sub-if2-2 c = search rules
 
 returns-2 : tie.Need-returns-2
 unfolding reach
-returns-2 c = ends-past _ _ _ _ c.before.before.before.found.given.1 (search rules)
+returns-2 c = ends_past _ _ _ _ c.before.before.before.found.given.1 (search rules)
 
 enum_told : tie.Need-enum-told
 enum_told c = search rules
@@ -31,7 +31,7 @@ enum-told-2 c = search rules
 
 returns-3 : tie.Need-returns-3
 unfolding reach
-returns-3 c = ends-below _ _ _ _ c.before.before.before.found.given.1 (search rules)
+returns-3 c = ends_below _ _ _ _ c.before.before.before.found.given.1 (search rules)
 
 returns-4 : tie.Need-returns-4
 unfolding finished

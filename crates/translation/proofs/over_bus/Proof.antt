@@ -1,6 +1,6 @@
--- `translation::over_bus` meets its contract: through the `ranges` of the bus, or nowhere where it has none, by StepLaws.over-here and
+-- `translation::over_bus` meets its contract: through the `ranges` of the bus, or nowhere where it has none, by StepLaws.over_here and
 -- over-not. Assumes nothing.
-use Rattle.translation.proofs.StepLaws.{over-here, over-not}
+use Rattle.translation.proofs.StepLaws.{over_here, over_not}
 use borrow.Author.Rules.{rules}
 use Rattle.translation.proofs.over_bus.Statement.{statement}
 use Rattle.translation.proofs.over_bus.Tie as tie
@@ -33,10 +33,10 @@ returns : tie.Need-returns
 returns c =
     let p = c.before.before.before in
     let g = p.before.before in
-    over-here _ _ _ _ _ _ _ g.before.before.getprop.ensures _ _ _ _ _ _ g.at.given.1 p.part.ensures c.before.before.address-cells.ensures c.before.size-cells.ensures c.translate-bus-address.ensures
+    over_here _ _ _ _ _ _ _ g.before.before.getprop.ensures _ _ _ _ _ _ g.at.given.1 p.part.ensures c.before.before.address_cells_lem.ensures c.before.size_cells_lem.ensures c.translate-bus-address.ensures
 
 returns-2 : tie.Need-returns-2
-returns-2 c = over-not _ _ _ _ _ _ _ c.before.before.getprop.ensures c.enum_told.given.1
+returns-2 c = over_not _ _ _ _ _ _ _ c.before.before.getprop.ensures c.enum_told.given.1
 
 pub over-bus-spec : {M : Type 1} → statement M
 over-bus-spec =

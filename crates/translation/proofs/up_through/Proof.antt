@@ -1,6 +1,6 @@
--- `translation::up_through` meets its contract: what the bus does with the region that was found below it, by StepLaws.up-gone. Assumes
+-- `translation::up_through` meets its contract: what the bus does with the region that was found below it, by StepLaws.up_gone. Assumes
 -- nothing.
-use Rattle.translation.proofs.StepLaws.{up-gone}
+use Rattle.translation.proofs.StepLaws.{up_gone}
 use borrow.Author.Rules.{rules}
 use Rattle.translation.proofs.up_through.Statement.{statement}
 use Rattle.translation.proofs.up_through.Tie as tie
@@ -29,17 +29,17 @@ enum-known-found-2 c = search rules
 returns : tie.Need-returns
 returns c =
     let k = c.before.before.before in
-    up-gone _ _ _ _ _ _ _ k.before.before.found.given.1 k.over-bus.ensures c.before.to.given.1
+    up_gone _ _ _ _ _ _ _ k.before.before.found.given.1 k.over-bus.ensures c.before.to.given.1
 
 returns-2 : tie.Need-returns-2
 returns-2 c =
     let k = c.before.before in
-    up-gone _ _ _ _ _ _ _ k.before.before.found.given.1 k.over-bus.ensures c.enum_told.given.1
+    up_gone _ _ _ _ _ _ _ k.before.before.found.given.1 k.over-bus.ensures c.enum_told.given.1
 
 returns-3 : tie.Need-returns-3
 returns-3 c =
     let k = c.before.before in
-    up-gone _ _ _ _ _ _ _ k.before.before.found.given.1 k.over-bus.ensures c.enum-told2.given.1
+    up_gone _ _ _ _ _ _ _ k.before.before.found.given.1 k.over-bus.ensures c.enum-told2.given.1
 
 returns-4 : tie.Need-returns-4
 returns-4 c = search rules

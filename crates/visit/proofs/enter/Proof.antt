@@ -1,5 +1,5 @@
 -- `visit::enter` meets its contract: the cursor before the first child of the parent that is found. Assumes nothing.
-use Rattle.visit.specs.Steps.{enterAt}
+use Rattle.visit.specs.Steps.{enter_at}
 use borrow.Author.Rules.{rules}
 use Rattle.visit.proofs.enter.Statement.{statement}
 use Rattle.visit.proofs.enter.Tie as tie
@@ -17,7 +17,7 @@ start-at-requires : tie.Need-start-at-requires
 start-at-requires c κs = search rules
 
 returns : tie.Need-returns
-unfolding enterAt
+unfolding enter_at
 returns c = rw (← c.before.before.before.parent_of.ensures, c.before.enum_told.given.1) c.start-at.ensures
 
 first-subnode-requires : tie.Need-first-subnode-requires
@@ -36,11 +36,11 @@ ranges-of-requires : tie.Need-ranges-of-requires
 ranges-of-requires c κs = search rules
 
 returns-2 : tie.Need-returns-2
-unfolding enterAt
+unfolding enter_at
 returns-2 c =
     let k = c.before.before.before.before.before.before in
-    rw (← k.before.before.parent_of.ensures, k.node.given.1, ← c.before.before.before.before.first-subnode.ensures, ← c.before.before.before.address-cells.ensures)
-    (rw (← c.before.before.root-cells.ensures, ← c.before.size-cells.ensures, ← c.ranges-of.ensures))
+    rw (← k.before.before.parent_of.ensures, k.node.given.1, ← c.before.before.before.before.first-subnode.ensures, ← c.before.before.before.address_cells_lem.ensures)
+    (rw (← c.before.before.root-cells.ensures, ← c.before.size_cells_lem.ensures, ← c.ranges-of.ensures))
 
 pub enter_spec : {M : Type 1} → statement M
 enter_spec =

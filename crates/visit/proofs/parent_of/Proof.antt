@@ -1,5 +1,5 @@
 -- `visit::parent_of` meets its contract, rule by rule. Assumes nothing.
-use Rattle.visit.specs.Steps.{parentAt}
+use Rattle.visit.specs.Steps.{parent_at}
 use borrow.Author.Rules.{rules}
 use Rattle.visit.proofs.parent_of.Statement.{statement}
 use Rattle.visit.proofs.parent_of.Tie as tie
@@ -32,7 +32,7 @@ returns-2 : tie.Need-returns-2
 returns-2 c = rw c.before.enum-told2.given.1 c.soc-parent.ensures
 
 returns-3 : tie.Need-returns-3
-unfolding parentAt
+unfolding parent_at
 returns-3 c = rw c.before.before.enum-told3.given.1 c.path-offset.ensures
 
 pub parent-of-spec : {M : Type 1} → statement M

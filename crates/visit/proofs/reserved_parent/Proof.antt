@@ -1,6 +1,6 @@
 -- `visit::reserved_parent` meets its contract: each step that finds nothing ends the search. Assumes nothing.
 use Rattle.claims.specs.declared.Way.TheVariants.{Reserve}
-use Rattle.visit.proofs.CodeLaws.{rootless, reserved-is}
+use Rattle.visit.proofs.CodeLaws.{rootless, reserved_is}
 use borrow.Author.Rules.{rules}
 use Rattle.visit.proofs.reserved_parent.Statement.{statement}
 use Rattle.visit.proofs.reserved_parent.Tie as tie
@@ -35,7 +35,7 @@ enum-told-2 c = search rules
 returns-2 : tie.Need-returns-2
 returns-2 c =
     let k = c.before.before.before.before.before in
-    reserved-is _ _ _ k.before.before.path-offset.ensures _ k.root.given.1 _ _ c.enum-told2.given.1 c.before.before.subnode.ensures
+    reserved_is _ _ _ k.before.before.path-offset.ensures _ k.root.given.1 _ _ c.enum-told2.given.1 c.before.before.subnode.ensures
 
 children-count-requires : tie.Need-children-count-requires
 children-count-requires c κs = search rules
@@ -44,15 +44,15 @@ returns-3 : tie.Need-returns-3
 returns-3 c =
     let k = c.before.before.before in
     let r = k.before.before.before.before.before in
-    rw (← c.before.children-count.ensures, c.if1.true) at
-    (reserved-is _ _ _ r.before.before.path-offset.ensures _ r.root.given.1 _ _ k.node.given.1 k.before.before.subnode.ensures)
+    rw (← c.before.children_count_lem.ensures, c.if1.true) at
+    (reserved_is _ _ _ r.before.before.path-offset.ensures _ r.root.given.1 _ _ k.node.given.1 k.before.before.subnode.ensures)
 
 returns-4 : tie.Need-returns-4
 returns-4 c =
     let k = c.before.before.before in
     let r = k.before.before.before.before.before in
-    rw (← c.before.children-count.ensures, c.if1.false) at
-    (reserved-is _ _ _ r.before.before.path-offset.ensures _ r.root.given.1 _ _ k.node.given.1 k.before.before.subnode.ensures)
+    rw (← c.before.children_count_lem.ensures, c.if1.false) at
+    (reserved_is _ _ _ r.before.before.path-offset.ensures _ r.root.given.1 _ _ k.node.given.1 k.before.before.subnode.ensures)
 
 pub reserved-parent-spec : {M : Type 1} → statement M
 reserved-parent-spec =

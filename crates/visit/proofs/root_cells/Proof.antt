@@ -1,5 +1,5 @@
 -- `visit::root_cells` meets its contract: the root's count, where there is a root. Assumes nothing.
-use Rattle.visit.specs.Steps.{rootCells}
+use Rattle.visit.specs.Steps.{root_cells}
 use borrow.Author.Rules.{rules}
 use Rattle.visit.proofs.root_cells.Statement.{statement}
 use Rattle.visit.proofs.root_cells.Tie as tie
@@ -20,11 +20,11 @@ enum_told : tie.Need-enum-told
 enum_told c = search rules
 
 returns : tie.Need-returns
-unfolding rootCells
-returns c = rw (← c.before.before.before.before.path-offset.ensures, c.before.before.root.given.1) c.address-cells.ensures
+unfolding root_cells
+returns c = rw (← c.before.before.before.before.path-offset.ensures, c.before.before.root.given.1) c.address_cells_lem.ensures
 
 returns-2 : tie.Need-returns-2
-unfolding rootCells
+unfolding root_cells
 returns-2 c = rw (← c.before.before.path-offset.ensures, c.enum_told.given.1)
 
 pub root-cells-spec : {M : Type 1} → statement M

@@ -1,6 +1,6 @@
 -- `visit::soc_parent` meets its contract: each step that finds nothing ends the search. Assumes nothing.
 use Rattle.claims.specs.declared.Way.TheVariants.{Soc}
-use Rattle.visit.proofs.CodeLaws.{rootless, soc-is}
+use Rattle.visit.proofs.CodeLaws.{rootless, soc_is}
 use borrow.Author.Rules.{rules}
 use Rattle.visit.proofs.soc_parent.Statement.{statement}
 use Rattle.visit.proofs.soc_parent.Tie as tie
@@ -35,7 +35,7 @@ enum-told-2 c = search rules
 returns-2 : tie.Need-returns-2
 returns-2 c =
     let k = c.before.before.before.before.before in
-    soc-is _ _ _ k.before.before.path-offset.ensures _ k.root.given.1 _ _ c.enum-told2.given.1 c.before.before.subnode.ensures
+    soc_is _ _ _ k.before.before.path-offset.ensures _ k.root.given.1 _ _ c.enum-told2.given.1 c.before.before.subnode.ensures
 
 slice-aggregate-getprop : tie.Need-slice-aggregate-getprop
 slice-aggregate-getprop c = search rules
@@ -54,14 +54,14 @@ returns-3 c =
     let k = c.before.before.before.before.before in
     let r = k.before.before.before.before.before in
     rw (← c.before.before.getprop.ensures, c.enum-told3.given.1) at
-    (soc-is _ _ _ r.before.before.path-offset.ensures _ r.root.given.1 _ _ k.node.given.1 k.before.before.subnode.ensures)
+    (soc_is _ _ _ r.before.before.path-offset.ensures _ r.root.given.1 _ _ k.node.given.1 k.before.before.subnode.ensures)
 
 returns-4 : tie.Need-returns-4
 returns-4 c =
     let k = c.before.before.before.before.before in
     let r = k.before.before.before.before.before in
     rw (← c.before.before.getprop.ensures, c.enum-told4.given.1) at
-    (soc-is _ _ _ r.before.before.path-offset.ensures _ r.root.given.1 _ _ k.node.given.1 k.before.before.subnode.ensures)
+    (soc_is _ _ _ r.before.before.path-offset.ensures _ r.root.given.1 _ _ k.node.given.1 k.before.before.subnode.ensures)
 
 pub soc-parent-spec : {M : Type 1} → statement M
 soc-parent-spec =

@@ -2,8 +2,8 @@
 -- claimed or passed over by its size and its sum. Assumes nothing.
 use mathlib.Core.Path.{sym, ◌∙◌}
 use native.Mathlib.Omega.{arith}
-use Rattle.visit.proofs.LeftLaws.{entry-inside}
-use Rattle.visit.proofs.CodeLaws.{entry-none, entry_gives, block-empty, block-far, block_near}
+use Rattle.visit.proofs.LeftLaws.{entry_inside}
+use Rattle.visit.proofs.CodeLaws.{entry-none, entry_gives, block_empty, block_far, block_near}
 use borrow.Author.Rules.{rules}
 use Rattle.visit.proofs.visit_fdt_memory_reservations.Statement.{statement}
 use Rattle.visit.proofs.visit_fdt_memory_reservations.Tie as tie
@@ -21,7 +21,7 @@ returns : tie.Need-returns
 returns c = rw c.enter.ensures (entry-none _ _ _ _ _ _ c.before.before.reserved-entry.ensures c.before.match.keys2)
 
 add-with-row : tie.Need-overflow-add-with-row
-add-with-row c = omega (arith, entry-inside _ _ _ (sym c.before.before.before.reserved-entry.ensures ∙ c.before.entry.given.1))
+add-with-row c = omega (arith, entry_inside _ _ _ (sym c.before.before.before.reserved-entry.ensures ∙ c.before.entry.given.1))
 
 with-row-requires : tie.Need-with-row-requires
 with-row-requires c κs = search rules
@@ -29,7 +29,7 @@ with-row-requires c κs = search rules
 returns-2 : tie.Need-returns-2
 returns-2 c =
     let k = c.before.before.before.before in
-    entry_gives _ _ _ _ _ _ _ k.before.before.reserved-entry.ensures _ k.entry.given.1 _ (block-empty _ c.if1.true) c.before.before.with_row.ensures
+    entry_gives _ _ _ _ _ _ _ k.before.before.reserved-entry.ensures _ k.entry.given.1 _ (block_empty _ c.if1.true) c.before.before.with_row.ensures
 
 sub-if2 : tie.Need-overflow-sub-if2
 sub-if2 c = search rules
@@ -37,7 +37,7 @@ sub-if2 c = search rules
 returns-3 : tie.Need-returns-3
 returns-3 c =
     let k = c.before.before.before.before.before.before.before in
-    entry_gives _ _ _ _ _ _ _ k.before.before.reserved-entry.ensures _ k.entry.given.1 _ (block-far _ c.if2.true) c.before.before.before.before.before.with_row.ensures
+    entry_gives _ _ _ _ _ _ _ k.before.before.reserved-entry.ensures _ k.entry.given.1 _ (block_far _ c.if2.true) c.before.before.before.before.before.with_row.ensures
 
 returns-4 : tie.Need-returns-4
 returns-4 c =

@@ -1,7 +1,7 @@
 -- `fit_soc` is the soc window's rule. Assumes nothing.
 use mathlib.Core.Path.{◌∙◌}
 use borrow.Author.Rules.{rules}
-use Rattle.windows.specs.Window.{lastByte}
+use Rattle.windows.specs.Window.{last_byte}
 use Rattle.windows.proofs.FitLaws.{below, past, inside}
 use Rattle.windows.proofs.fit_soc.Statement.{statement}
 use Rattle.windows.proofs.fit_soc.Tie as tie
@@ -13,7 +13,7 @@ last-of-requires : tie.Need-last-of-requires
 last-of-requires c κs = search rules
 
 sub-if2 : tie.Need-overflow-sub-if2
-unfolding lastByte
+unfolding last_byte
 sub-if2 c = search rules
 
 returns-2 : tie.Need-returns-2

@@ -3,21 +3,21 @@ use mathlib.Core.Path.{◌≡◌, sym, ◌∙◌}
 use Prim.Native.Nat.{◌≤◌, ◌-◌}
 use native.Mathlib.Omega.{arith}
 use borrow.Author.Rules.{rules}
-use Rattle.cells.specs.Rows.{rangesOf}
+use Rattle.cells.specs.Rows.{ranges_of}
 use Rattle.windows.specs.Window.{window}
-use Rattle.windows.proofs.WindowLaws.{goOn, on-all, on-unreadable, on-empty, on-past, on_row, row_below}
+use Rattle.windows.proofs.WindowLaws.{go_on, on_all, on_unreadable, on_empty, on_past, on_row, row_below}
 use Rattle.windows.proofs.through.Statement.{statement}
 use Rattle.windows.proofs.through.Tie as tie
 
 abbrev invariant-loop : tie.invariant-loop
 invariant-loop soc ranges own parent length address size i₀ i =
-    (i ≤ lib.ListN.length ranges) × (goOn soc (rangesOf own parent length ranges) i address size ≡ window soc (rangesOf own parent length ranges) address size)
+    (i ≤ lib.ListN.length ranges) × (go_on soc (ranges_of own parent length ranges) i address size ≡ window soc (ranges_of own parent length ranges) address size)
 
 abbrev decreases-loop : tie.decreases-loop
 decreases-loop soc ranges own parent length address size i₀ i = lib.ListN.length ranges - i
 
 loop-holds : tie.Need-loop-init invariant-loop decreases-loop
-loop-holds c = (omega arith, on-all _ _ _ _)
+loop-holds c = (omega arith, on_all _ _ _ _)
 
 range-row-requires : tie.Need-range-row-requires invariant-loop decreases-loop
 range-row-requires c κs = search rules
@@ -28,7 +28,7 @@ enum_told c = search rules
 returns : tie.Need-returns invariant-loop decreases-loop
 returns c =
     let k = c.before.before in
-    sym (on-unreadable _ _ _ _ _ (sym k.range-row.ensures ∙ c.enum_told.given.1)) ∙ k.before.loop.invariant.1
+    sym (on_unreadable _ _ _ _ _ (sym k.range-row.ensures ∙ c.enum_told.given.1)) ∙ k.before.loop.invariant.1
 
 enum-told-2 : tie.Need-enum-told-2 invariant-loop decreases-loop
 enum-told-2 c = search rules
@@ -38,12 +38,12 @@ returns-2 c =
     let k = c.before.before.before in
     let z : k.before.loop.i ≡ 0 = c.if1.true in
     let e = sym k.range-row.ensures ∙ c.before.enum-told2.given.1 in
-    sym (on-empty _ _ _ _ (rw z at e)) ∙ (rw z at k.before.loop.invariant.1)
+    sym (on_empty _ _ _ _ (rw z at e)) ∙ (rw z at k.before.loop.invariant.1)
 
 returns-3 : tie.Need-returns-3 invariant-loop decreases-loop
 returns-3 c =
     let k = c.before.before.before in
-    sym (on-past _ _ _ _ _ c.if1.false (sym k.range-row.ensures ∙ c.before.enum-told2.given.1)) ∙ k.before.loop.invariant.1
+    sym (on_past _ _ _ _ _ c.if1.false (sym k.range-row.ensures ∙ c.before.enum-told2.given.1)) ∙ k.before.loop.invariant.1
 
 enum-known-range : tie.Need-enum-known-range invariant-loop decreases-loop
 enum-known-range c = search rules

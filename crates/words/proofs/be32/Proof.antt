@@ -3,13 +3,13 @@
 use mathlib.Core.Path.{sym}
 use native.Mathlib.Omega.{arith}
 use Rattle.words.specs.Bytes.{word}
-use Rattle.words.proofs.BytesLaws.{word-past}
+use Rattle.words.proofs.BytesLaws.{word_past}
 use borrow.Author.Rules.{rules}
 use Rattle.words.proofs.be32.Statement.{statement}
 use Rattle.words.proofs.be32.Tie as tie
 
 returns : tie.Need-returns
-returns c = record { is = sym (word-past _ _ c.if1.true); small = omega arith }
+returns c = record { is = sym (word_past _ _ c.if1.true); small = omega arith }
 
 byte-requires : tie.Need-byte-requires
 byte-requires c κs = search rules

@@ -2,13 +2,13 @@
 use mathlib.Core.Path.{sym}
 use native.Mathlib.Omega.{arith}
 use Rattle.words.specs.Bytes.{double}
-use Rattle.words.proofs.BytesLaws.{double-past}
+use Rattle.words.proofs.BytesLaws.{double_past}
 use borrow.Author.Rules.{rules}
 use Rattle.words.proofs.be64.Statement.{statement}
 use Rattle.words.proofs.be64.Tie as tie
 
 returns : tie.Need-returns
-returns c = record { is = sym (double-past _ _ c.if1.true); small = omega arith }
+returns c = record { is = sym (double_past _ _ c.if1.true); small = omega arith }
 
 be32-requires : tie.Need-be32-requires
 be32-requires c κs = search rules

@@ -4,13 +4,13 @@ use mathlib.Core.Path.{◌≡◌, refl, sym, ◌∙◌}
 use Prim.Native.Nat.{◌-◌}
 use native.Mathlib.Omega.{arith}
 use lib.ListN.{length}
-use Rattle.words.specs.Bytes.{firstByte}
-use Rattle.words.proofs.BytesLaws.{first-stop, first_step, first-none, finds}
+use Rattle.words.specs.Bytes.{first_byte}
+use Rattle.words.proofs.BytesLaws.{first_stop, first_step, first_none, finds}
 use Rattle.words.proofs.byte_from.Statement.{statement}
 use Rattle.words.proofs.byte_from.Tie as tie
 
 abbrev invariant-loop : tie.invariant-loop
-invariant-loop s at x i₀ i = firstByte x s at ≡ firstByte x s i
+invariant-loop s at x i₀ i = first_byte x s at ≡ first_byte x s i
 
 abbrev decreases-loop : tie.decreases-loop
 decreases-loop s at x i₀ i = length s - i
@@ -26,7 +26,7 @@ returns c =
     finds _ _ _
     (sym
     (c.before.before.before.loop.invariant ∙
-    first-stop _ _ _ c.before.before.loop-test.true c.if1.true))
+    first_stop _ _ _ c.before.before.loop-test.true c.if1.true))
 
 add-i : tie.Need-overflow-add-i invariant-loop decreases-loop
 add-i c = omega arith
@@ -40,7 +40,7 @@ loop-again c =
     first_step _ _ _ c.before.before.loop-test.true c.if1.false
 
 returns-2 : tie.Need-returns-2 invariant-loop decreases-loop
-returns-2 c = finds _ _ _ (sym (c.before.loop.invariant ∙ first-none _ _ _ c.loop-test.false))
+returns-2 c = finds _ _ _ (sym (c.before.loop.invariant ∙ first_none _ _ _ c.loop-test.false))
 
 pub byte-from-spec : {M : Type 1} → statement M
 byte-from-spec =

@@ -3,13 +3,13 @@
 use mathlib.Core.Path.{sym}
 use native.Mathlib.Omega.{arith}
 use Rattle.words.specs.Little.{half}
-use Rattle.words.proofs.LittleLaws.{half-past}
+use Rattle.words.proofs.LittleLaws.{half_past}
 use borrow.Author.Rules.{rules}
 use Rattle.words.proofs.le16.Statement.{statement}
 use Rattle.words.proofs.le16.Tie as tie
 
 returns : tie.Need-returns
-returns c = record { is = sym (half-past _ _ c.if1.true); small = omega arith }
+returns c = record { is = sym (half_past _ _ c.if1.true); small = omega arith }
 
 byte-requires : tie.Need-byte-requires
 byte-requires c κs = search rules

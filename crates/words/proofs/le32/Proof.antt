@@ -2,13 +2,13 @@
 use mathlib.Core.Path.{sym}
 use native.Mathlib.Omega.{arith}
 use Rattle.words.specs.Little.{quarter}
-use Rattle.words.proofs.LittleLaws.{quarter-past}
+use Rattle.words.proofs.LittleLaws.{quarter_past}
 use borrow.Author.Rules.{rules}
 use Rattle.words.proofs.le32.Statement.{statement}
 use Rattle.words.proofs.le32.Tie as tie
 
 returns : tie.Need-returns
-returns c = record { is = sym (quarter-past _ _ c.if1.true); small = omega arith }
+returns c = record { is = sym (quarter_past _ _ c.if1.true); small = omega arith }
 
 le16-requires : tie.Need-le16-requires
 le16-requires c κs = search rules

@@ -2,13 +2,13 @@
 use mathlib.Core.Path.{sym}
 use native.Mathlib.Omega.{arith}
 use Rattle.words.specs.Little.{eight}
-use Rattle.words.proofs.LittleLaws.{eight-past}
+use Rattle.words.proofs.LittleLaws.{eight_past}
 use borrow.Author.Rules.{rules}
 use Rattle.words.proofs.le64.Statement.{statement}
 use Rattle.words.proofs.le64.Tie as tie
 
 returns : tie.Need-returns
-returns c = record { is = sym (eight-past _ _ c.if1.true); small = omega arith }
+returns c = record { is = sym (eight_past _ _ c.if1.true); small = omega arith }
 
 sub-if2 : tie.Need-overflow-sub-if2
 sub-if2 c = search rules

@@ -1,24 +1,24 @@
 -- `writer::judge_finish` meets its contract: one law for each return (Refusals). Assumes nothing.
-use Rattle.writer.proofs.Refusals.{finish-done, finish-bare, finish-open, finish-room}
+use Rattle.writer.proofs.Refusals.{finish_done, finish_bare, finish_open, finish_room}
 use mathlib.Core.Path.{◌∙◌}
 use borrow.Author.Rules.{rules}
 use Rattle.writer.proofs.judge_finish.Statement.{statement}
 use Rattle.writer.proofs.judge_finish.Tie as tie
 
 returns : tie.Need-returns
-returns c = finish-done c.before.args.w c.before.args.room c.if1.true
+returns c = finish_done c.before.args.w c.before.args.room c.if1.true
 
 returns-2 : tie.Need-returns-2
-returns-2 c = finish-bare c.before.before.before.args.w c.before.before.before.args.room c.before.before.if1.false c.if2.true
+returns-2 c = finish_bare c.before.before.before.args.w c.before.before.before.args.room c.before.before.if1.false c.if2.true
 
 returns-3 : tie.Need-returns-3
-returns-3 c = finish-open c.before.before.before.before.before.args.w c.before.before.before.before.before.args.room c.before.before.before.before.if1.false c.before.before.if2.false c.if3.true
+returns-3 c = finish_open c.before.before.before.before.before.args.w c.before.before.before.before.before.args.room c.before.before.before.before.if1.false c.before.before.if2.false c.if3.true
 
 room-for-requires : tie.Need-room-for-requires
 room-for-requires c κs = search rules
 
 returns-4 : tie.Need-returns-4
-returns-4 c = c.room_for.ensures ∙ finish-room c.before.before.before.before.before.before.args.w c.before.before.before.before.before.before.args.room c.before.before.before.before.before.if1.false c.before.before.before.if2.false c.before.if3.false
+returns-4 c = c.room_for.ensures ∙ finish_room c.before.before.before.before.before.before.args.w c.before.before.before.before.before.before.args.room c.before.before.before.before.before.if1.false c.before.before.before.if2.false c.before.if3.false
 
 pub judge-finish-spec : {M : Type 1} → statement M
 judge-finish-spec = tie.close (tie.spec returns returns-2 returns-3 room-for-requires returns-4)

@@ -2,8 +2,8 @@
 use native.Mathlib.Omega.{arith}
 use Rattle.flattened.specs.Parts.{begins}
 use Rattle.flattened.proofs.PartLaws.{part_length}
-use Rattle.pen.proofs.WritingLaws.{and-then, as-text}
-use Rattle.writer.proofs.Laying.{begin-bytes}
+use Rattle.pen.proofs.WritingLaws.{and_then_lem, as_text}
+use Rattle.writer.proofs.Laying.{begin_bytes}
 use borrow.Author.Rules.{rules}
 use Rattle.writer.proofs.put_begin.Statement.{statement}
 use Rattle.writer.proofs.put_begin.Tie as tie
@@ -30,7 +30,7 @@ same_length : tie.Need-same-length
 same_length c = search rules
 
 returns : tie.Need-returns
-returns c = let n = c.before.before.before.before.before.before.before.before.before.before.before.before.before.before.args.name.now in as-text (begin-bytes n) (and-then c.before.before.before.before.before.before.before.before.before.before.put32.ensures (and-then c.before.before.before.before.before.before.put.ensures c.before.before.put-zeros.ensures.fits)) (omega (arith, part_length 0 (begins n)))
+returns c = let n = c.before.before.before.before.before.before.before.before.before.before.before.before.before.before.args.name.now in as_text (begin_bytes n) (and_then_lem c.before.before.before.before.before.before.before.before.before.before.put32.ensures (and_then_lem c.before.before.before.before.before.before.put.ensures c.before.before.put-zeros.ensures.fits)) (omega (arith, part_length 0 (begins n)))
 
 pub put-begin-spec : {M : Type 1} → statement M
 put-begin-spec =

@@ -1,8 +1,8 @@
 -- `writer::put_header` meets its contract: its ten numbers stand one behind the other. Assumes nothing.
 use native.Mathlib.Omega.{arith}
 use Rattle.flattened.specs.Blob.{header}
-use Rattle.pen.proofs.WritingLaws.{and-then, kept}
-use Rattle.writer.proofs.Laying.{header-room}
+use Rattle.pen.proofs.WritingLaws.{and_then_lem, kept}
+use Rattle.writer.proofs.Laying.{header_room}
 use borrow.Author.Rules.{rules}
 use Rattle.writer.proofs.put_header.Statement.{statement}
 use Rattle.writer.proofs.put_header.Tie as tie
@@ -57,10 +57,10 @@ put32-requires-10 c κs = search rules
 
 returns : tie.Need-returns
 unfolding header
-returns c = let a = c.before.before.before.before.before.before.before.before.before.before.before.before.before.before.before.before.before.before.before.before.before.before.before.before.before.before.before.before.before.before.before.before.before.before.before.before.before.before.before.before.before.args in and-then c.before.before.before.before.before.before.before.before.before.before.before.before.before.before.before.before.before.before.before.before.before.before.before.before.before.before.before.before.before.before.before.before.before.before.before.before.before.before.put32.ensures (and-then c.before.before.before.before.before.before.before.before.before.before.before.before.before.before.before.before.before.before.before.before.before.before.before.before.before.before.before.before.before.before.before.before.before.before.put322.ensures (and-then c.before.before.before.before.before.before.before.before.before.before.before.before.before.before.before.before.before.before.before.before.before.before.before.before.before.before.before.before.before.before.put323.ensures (and-then c.before.before.before.before.before.before.before.before.before.before.before.before.before.before.before.before.before.before.before.before.before.before.before.before.before.before.put324.ensures (and-then c.before.before.before.before.before.before.before.before.before.before.before.before.before.before.before.before.before.before.before.before.before.before.put325.ensures (and-then c.before.before.before.before.before.before.before.before.before.before.before.before.before.before.before.before.before.before.put326.ensures (and-then c.before.before.before.before.before.before.before.before.before.before.before.before.before.before.put327.ensures (and-then c.before.before.before.before.before.before.before.before.before.before.put328.ensures (and-then c.before.before.before.before.before.before.put329.ensures c.before.before.put3210.ensures.fits)))))))) (header-room a.m a.b a.n _ c.before.before.before.before.before.before.before.before.before.before.before.before.before.before.before.before.before.before.before.before.before.before.before.before.before.before.before.before.before.before.before.before.before.before.before.before.before.before.before.before.before.requires.0)
+returns c = let a = c.before.before.before.before.before.before.before.before.before.before.before.before.before.before.before.before.before.before.before.before.before.before.before.before.before.before.before.before.before.before.before.before.before.before.before.before.before.before.before.before.before.args in and_then_lem c.before.before.before.before.before.before.before.before.before.before.before.before.before.before.before.before.before.before.before.before.before.before.before.before.before.before.before.before.before.before.before.before.before.before.before.before.before.before.put32.ensures (and_then_lem c.before.before.before.before.before.before.before.before.before.before.before.before.before.before.before.before.before.before.before.before.before.before.before.before.before.before.before.before.before.before.before.before.before.before.put322.ensures (and_then_lem c.before.before.before.before.before.before.before.before.before.before.before.before.before.before.before.before.before.before.before.before.before.before.before.before.before.before.before.before.before.before.put323.ensures (and_then_lem c.before.before.before.before.before.before.before.before.before.before.before.before.before.before.before.before.before.before.before.before.before.before.before.before.before.before.put324.ensures (and_then_lem c.before.before.before.before.before.before.before.before.before.before.before.before.before.before.before.before.before.before.before.before.before.before.put325.ensures (and_then_lem c.before.before.before.before.before.before.before.before.before.before.before.before.before.before.before.before.before.before.put326.ensures (and_then_lem c.before.before.before.before.before.before.before.before.before.before.before.before.before.before.put327.ensures (and_then_lem c.before.before.before.before.before.before.before.before.before.before.put328.ensures (and_then_lem c.before.before.before.before.before.before.put329.ensures c.before.before.put3210.ensures.fits)))))))) (header_room a.m a.b a.n _ c.before.before.before.before.before.before.before.before.before.before.before.before.before.before.before.before.before.before.before.before.before.before.before.before.before.before.before.before.before.before.before.before.before.before.before.before.before.before.before.before.before.requires.0)
 
 same_length : tie.Need-same-length
-same_length c = let a = c.before.before.before.before.before.before.before.before.before.before.before.before.before.before.before.before.before.before.before.before.before.before.before.before.before.before.before.before.before.before.before.before.before.before.before.before.before.before.before.before.before.args in kept (returns c) (header-room a.m a.b a.n _ c.before.before.before.before.before.before.before.before.before.before.before.before.before.before.before.before.before.before.before.before.before.before.before.before.before.before.before.before.before.before.before.before.before.before.before.before.before.before.before.before.before.requires.0)
+same_length c = let a = c.before.before.before.before.before.before.before.before.before.before.before.before.before.before.before.before.before.before.before.before.before.before.before.before.before.before.before.before.before.before.before.before.before.before.before.before.before.before.before.before.before.args in kept (returns c) (header_room a.m a.b a.n _ c.before.before.before.before.before.before.before.before.before.before.before.before.before.before.before.before.before.before.before.before.before.before.before.before.before.before.before.before.before.before.before.before.before.before.before.before.before.before.before.before.before.requires.0)
 
 pub put-header-spec : {M : Type 1} → statement M
 put-header-spec =

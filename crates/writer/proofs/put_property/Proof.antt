@@ -3,8 +3,8 @@ use native.Mathlib.Omega.{arith}
 use mathlib.Core.List.{[]}
 use Rattle.flattened.specs.Parts.{property}
 use Rattle.flattened.proofs.PartLaws.{part_length}
-use Rattle.pen.proofs.WritingLaws.{and-then, as-text}
-use Rattle.writer.proofs.Laying.{property-bytes}
+use Rattle.pen.proofs.WritingLaws.{and_then_lem, as_text}
+use Rattle.writer.proofs.Laying.{property_bytes}
 use borrow.Author.Rules.{rules}
 use Rattle.writer.proofs.put_property.Statement.{statement}
 use Rattle.writer.proofs.put_property.Tie as tie
@@ -37,7 +37,7 @@ same_length : tie.Need-same-length
 same_length c = search rules
 
 returns : tie.Need-returns
-returns c = let v = c.before.before.before.before.before.before.before.before.before.before.before.before.before.before.before.before.before.before.before.before.before.before.args.value.now in let a = c.before.before.before.before.before.before.before.before.before.before.before.before.before.before.before.before.before.before.before.before.before.before.args.name in as-text (property-bytes a v) (and-then c.before.before.before.before.before.before.before.before.before.before.before.before.before.before.before.before.before.before.put32.ensures (and-then c.before.before.before.before.before.before.before.before.before.before.before.before.before.before.put322.ensures (and-then c.before.before.before.before.before.before.before.before.before.before.put323.ensures (and-then c.before.before.before.before.before.before.put.ensures c.before.before.put-zeros.ensures.fits)))) (omega (arith, part_length a (property [] v)))
+returns c = let v = c.before.before.before.before.before.before.before.before.before.before.before.before.before.before.before.before.before.before.before.before.before.before.args.value.now in let a = c.before.before.before.before.before.before.before.before.before.before.before.before.before.before.before.before.before.before.before.before.before.before.args.name in as_text (property_bytes a v) (and_then_lem c.before.before.before.before.before.before.before.before.before.before.before.before.before.before.before.before.before.before.put32.ensures (and_then_lem c.before.before.before.before.before.before.before.before.before.before.before.before.before.before.put322.ensures (and_then_lem c.before.before.before.before.before.before.before.before.before.before.put323.ensures (and_then_lem c.before.before.before.before.before.before.put.ensures c.before.before.put-zeros.ensures.fits)))) (omega (arith, part_length a (property [] v)))
 
 pub put-property-spec : {M : Type 1} → statement M
 put-property-spec =

@@ -1,27 +1,27 @@
 -- `writer::room_for` meets its contract: a size that cannot be summed is over the limit (Refusals). Assumes nothing.
-use Rattle.writer.proofs.Refusals.{room-over, bounds, final-bare, final-rooted}
+use Rattle.writer.proofs.Refusals.{room_over, bounds, final_bare, final_rooted}
 use mathlib.Core.Path.{◌∙◌, ap}
 use native.Mathlib.Omega.{arith}
 use Prim.Native.Nat.{ℕ}
-use Rattle.writer.specs.Writer.{roomAnswer}
+use Rattle.writer.specs.Writer.{room_answer}
 use borrow.Author.Rules.{rules}
 use Rattle.writer.proofs.room_for.Statement.{statement}
 use Rattle.writer.proofs.room_for.Tie as tie
 
 returns : tie.Need-returns
-returns c = let b = bounds c.before.args.w in room-over _ _ (omega arith)
+returns c = let b = bounds c.before.args.w in room_over _ _ (omega arith)
 
 returns-2 : tie.Need-returns-2
-returns-2 c = let b = bounds c.before.before.args.w in room-over _ _ (omega arith)
+returns-2 c = let b = bounds c.before.before.args.w in room_over _ _ (omega arith)
 
 returns-3 : tie.Need-returns-3
-returns-3 c = let b = bounds c.before.before.before.args.w in room-over _ _ (omega arith)
+returns-3 c = let b = bounds c.before.before.before.args.w in room_over _ _ (omega arith)
 
 returns-4 : tie.Need-returns-4
-returns-4 c = let b = bounds c.before.before.before.before.args.w in room-over _ _ (omega arith)
+returns-4 c = let b = bounds c.before.before.before.before.args.w in room_over _ _ (omega arith)
 
 returns-5 : tie.Need-returns-5
-returns-5 c = let b = bounds c.before.before.before.before.before.args.w in room-over _ _ (omega arith)
+returns-5 c = let b = bounds c.before.before.before.before.before.args.w in room_over _ _ (omega arith)
 
 add-size : tie.Need-overflow-add-size
 add-size c = search rules
@@ -57,13 +57,13 @@ sized-requires : tie.Need-sized-requires
 sized-requires c κs = search rules
 
 returns-6 : tie.Need-returns-6
-returns-6 c = c.sized.ensures ∙ ap (λ (x : ℕ). roomAnswer x c.before.before.before.before.before.before.before.before.args.room) (final-bare c.before.before.before.before.before.before.before.before.args.w c.before.before.before.before.before.before.before.before.args.more c.before.if6.true)
+returns-6 c = c.sized.ensures ∙ ap (λ (x : ℕ). room_answer x c.before.before.before.before.before.before.before.before.args.room) (final_bare c.before.before.before.before.before.before.before.before.args.w c.before.before.before.before.before.before.before.before.args.more c.before.if6.true)
 
 sized-requires-2 : tie.Need-sized-requires-2
 sized-requires-2 c κs = search rules
 
 returns-7 : tie.Need-returns-7
-returns-7 c = c.sized2.ensures ∙ ap (λ (x : ℕ). roomAnswer x c.before.before.before.before.before.before.before.before.args.room) (final-rooted c.before.before.before.before.before.before.before.before.args.w c.before.before.before.before.before.before.before.before.args.more c.before.if6.false)
+returns-7 c = c.sized2.ensures ∙ ap (λ (x : ℕ). room_answer x c.before.before.before.before.before.before.before.before.args.room) (final_rooted c.before.before.before.before.before.before.before.before.args.w c.before.before.before.before.before.before.before.before.args.more c.before.if6.false)
 
 pub room-for-spec : {M : Type 1} → statement M
 room-for-spec =
