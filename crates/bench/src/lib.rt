@@ -1,4 +1,6 @@
 // What `oracle bench` times of our crates: calls that Rust and C can make.
+#![tactic(auto)]
+
 ghost use Rattle.std.specs.Prelude.{◌≡◌};
 ghost use Rattle.entry.specs.Claim.{claim};
 ghost use Rattle.memory.specs.Map.{map_of, blank, registered};

@@ -1,4 +1,6 @@
 // The bootloader's list: 24 bytes an entry, registered whole or not at all.
+#![tactic(auto)]
+
 ghost use Rattle.std.specs.Prelude.{◌≡◌};
 ghost use Rattle.memory.specs.Map.{map_of, left};
 ghost use Rattle.memory.specs.Made.{Made};

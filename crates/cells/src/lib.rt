@@ -1,4 +1,6 @@
 // The values of properties: cell counts, the rows of `reg` and `ranges`, and strings. Devicetree Specification v0.4, chapter 2.
+#![tactic(auto)]
+
 ghost use Rattle.std.specs.Prelude.{◌≡◌, ◌≤◌};
 ghost use Rattle.cells.specs.Count.{stated_by, cell_bytes, width_by};
 ghost use Rattle.cells.specs.Rows.{number_at, reg_of, ranges_of, reg_row, range_row};

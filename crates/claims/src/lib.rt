@@ -1,4 +1,6 @@
 // What a tree claims, child by child, and what it is refused for. The list as a whole is a definition: specs/Claims.antt.
+#![tactic(auto)]
+
 ghost use Rattle.std.specs.Prelude.{◌≡◌, []};
 ghost use Rattle.cells.specs.Rows.{rows, ranges_of};
 ghost use Rattle.nodes.specs.Nav.{prop_at};

@@ -1,4 +1,6 @@
 // What `oracle bench` times of a tree's claims: a call that Rust and C can make.
+#![tactic(auto)]
+
 ghost use Rattle.std.specs.Prelude.{◌≡◌};
 ghost use Rattle.memory.specs.Map.{blank};
 ghost use Rattle.dtb.specs.Call.{tree_registered};

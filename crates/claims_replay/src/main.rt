@@ -1,5 +1,7 @@
 // Replays a stream of trees on standard input, each with the claims that the unchanged Rust made of it, and says where
 // ours differ. oracle/README.md has the layout of a case.
+#![tactic(auto)]
+
 ghost use Rattle.memory.specs.Made.{Made};
 
 use fdt::{Blocks, Opened, Token};

@@ -1,4 +1,6 @@
 // The tree's call: a tree's claims, judged and then registered in their order. The memory side of the kernel's src/dtb/mod.rs.
+#![tactic(auto)]
+
 ghost use Rattle.std.specs.Prelude.{◌≡◌};
 ghost use Rattle.memory.specs.Map.{map_of, left};
 ghost use Rattle.memory.specs.Made.{Made};

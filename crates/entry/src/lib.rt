@@ -1,4 +1,6 @@
 // The seven kinds, an entry of the map, and the range that a registration covers once it is rounded.
+#![tactic(auto)]
+
 ghost use Rattle.std.specs.Prelude.{◌≡◌, min, max};
 ghost use Rattle.entry.specs.Kind.{number_of, kind_of};
 ghost use Rattle.entry.specs.Entry.{meet, join};

@@ -1,4 +1,6 @@
 // Opening a flattened devicetree: which bytes are a tree, and which tree. Devicetree Specification v0.4, chapter 5.
+#![tactic(auto)]
+
 ghost use Rattle.std.specs.Prelude.{◌≡◌, ◌+◌, ◌≤◌, ◌<◌, length};
 ghost use Rattle.fdt.specs.Header.{good_header};
 ghost use Rattle.fdt.specs.Token.{prop_at, tok_at};

@@ -1,5 +1,7 @@
 // Numbers as text, put into a lent buffer: decimal digits, 16 hex digits, and a word with a number behind it. What has no room from its
 // place on is not put at all, so that no function here asks anything of its caller.
+#![tactic(auto)]
+
 ghost use Rattle.figures.specs.Figures.{decimal_text, hex_text, Labelled};
 ghost use Rattle.pen.specs.Writing.{Put};
 

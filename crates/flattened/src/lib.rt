@@ -1,1 +1,2 @@
 // The flattened form of a tree, and the theorem that it is read back. No code of its own.
+#![tactic(auto)]

@@ -1,5 +1,7 @@
 // Document 01's run-only case: 512 Free pages, every second one, and then one registration of each sort that
 // a full map meets. Each line that is printed is compared with what the document says.
+#![tactic(auto)]
+
 ghost use Rattle.memory.specs.Made.{Made};
 
 use libc::STDOUT_FILENO;

@@ -1,4 +1,6 @@
 // A claim that comes when the area table is finished: it enters the map, and the table is edited where it stands. Request L3 of document 02.
+#![tactic(auto)]
+
 ghost use Rattle.std.specs.Prelude.{◌≡◌, cond};
 ghost use Rattle.entry.specs.Claim.{claim};
 ghost use Rattle.memory.specs.Map.{map_of};

@@ -1,4 +1,6 @@
 // Late claims one after the other, up to the first that is refused: request L3 of document 02, its program's claims.
+#![tactic(auto)]
+
 ghost use Rattle.std.specs.Prelude.{◌≡◌};
 ghost use Rattle.memory.specs.Map.{map_of};
 ghost use Rattle.memory.specs.Made.{Made};

@@ -1,4 +1,6 @@
 // The finished areas in a lent row of area records: document 01, "then a lent row of area records". The build in number slots does the work.
+#![tactic(auto)]
+
 ghost use Rattle.std.specs.Prelude.{◌≡◌, ◌<◌};
 ghost use Rattle.memory.specs.Made.{Made};
 ghost use Rattle.areas.specs.Areas.{areas_of};

@@ -1,4 +1,6 @@
 // A map that is lent for change: document 01, "afterwards also a map lent for change". The registration by value does the work.
+#![tactic(auto)]
+
 ghost use Rattle.std.specs.Prelude.{◌≡◌};
 ghost use Rattle.entry.specs.Claim.{claim};
 ghost use Rattle.memory.specs.Map.{registered};

@@ -3,6 +3,8 @@
 //
 // Slot k is the numbers at places k + k and k + k + 1, an area's base and its size, and the first n slots are in use. A range goes from lo up
 // to hi, and hi is not in it. No base and size are added before it is known that the sum fits.
+#![tactic(auto)]
+
 ghost use Rattle.std.specs.Prelude.{◌≡◌, ◌+◌, ◌≤◌, ◌<◌, leb, length};
 ghost use Rattle.areas.specs.Interval.{interval};
 ghost use Rattle.lent_table.specs.Table.{good_area, good_table};

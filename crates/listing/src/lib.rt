@@ -1,5 +1,7 @@
 // What a map lists: its entries of one kind, or of every other, in the order in which it holds them.
 // Each listing is a map of its own, where the Rust has an iterator.
+#![tactic(auto)]
+
 ghost use Rattle.std.specs.Prelude.{◌≡◌, true, false};
 ghost use Rattle.entry.specs.Kind.{number_of};
 ghost use Rattle.memory.specs.Made.{Made};

@@ -1,5 +1,7 @@
 // The map where a caller lends it as plain numbers: for callers that know no MemoryMap. Request L3 of document 02: "a build that leaves its
 // map in the caller's memory".
+#![tactic(auto)]
+
 ghost use Rattle.std.specs.Prelude.{◌≡◌, ◌+◌, ◌≤◌, length, drop};
 ghost use Rattle.std.proofs.Math.Seq.{paste};
 ghost use Rattle.map_numbers.specs.Numbers.{map_in, numbers_of, Put};

@@ -1,4 +1,6 @@
 // The boot memory map, and what a registration does to it.
+#![tactic(auto)]
+
 ghost use Rattle.std.specs.Prelude.{◌≡◌, ◌≤◌};
 ghost use Rattle.entry.specs.Kind.{number_of};
 ghost use Rattle.entry.specs.Claim.{claim};

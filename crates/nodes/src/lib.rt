@@ -1,5 +1,7 @@
 // Reading an opened tree: names, children, properties, paths and document order. Each function takes the structure block, the strings
 // block and a place in the structure block; whatever these are, it answers. A node's place is that of its FDT_BEGIN_NODE token.
+#![tactic(auto)]
+
 ghost use Rattle.std.specs.Prelude.{◌≡◌, ◌||◌, ◌≤◌, length};
 ghost use Rattle.words.specs.Bytes.{bytes};
 ghost use Rattle.fdt.specs.Tree.{lex_at};

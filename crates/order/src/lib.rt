@@ -1,4 +1,6 @@
 // The order file's layout.
+#![tactic(auto)]
+
 ghost use Rattle.std.specs.Prelude.{◌≡◌, ◌≤◌, ◌<◌, length, eqb, ◌||◌};
 ghost use Rattle.words.specs.Little.{eight};
 ghost use Rattle.order.specs.Layout.{limit_by, pair_at, good_order, order_in, order_number, order_of, file_end};

@@ -1,4 +1,6 @@
 // Rounding to pages: the leaf that every registration and every limit stands on.
+#![tactic(auto)]
+
 ghost use Rattle.std.specs.Prelude.{◌≡◌};
 ghost use Rattle.page.specs.Round.{down, up, ending};
 

@@ -1,5 +1,7 @@
 // Bytes put into a lent buffer: as they are, as big-endian numbers, zeros, last to first; and the end of a buffer turned round. What has no
 // room from its place on is not put at all, so that no function here asks anything of its caller.
+#![tactic(auto)]
+
 ghost use Rattle.std.specs.Prelude.{◌≡◌, ◌++◌, reverse, take, drop, replicate};
 ghost use Rattle.pen.specs.Numbers.{bytes4, bytes8};
 ghost use Rattle.pen.specs.Writing.{HasRoom, Put};

@@ -1,5 +1,7 @@
 // The programs `report` and `late` as functions, so that their exit status can be had: Rattle's `main` answers none, and C's can answer
 // this one.
+#![tactic(auto)]
+
 ghost use Rattle.std.specs.Prelude.{◌≤◌};
 
 use standard::{Ending, Input};

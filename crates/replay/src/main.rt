@@ -1,5 +1,7 @@
 // Replays a stream of cases on standard input, each with the answers of the unchanged Rust, and says where ours
 // differ. oracle/README.md has the layout of a case.
+#![tactic(auto)]
+
 ghost use Rattle.std.specs.Prelude.{◌≤◌, ◌≡◌, length};
 ghost use Rattle.memory.specs.Made.{Made};
 

@@ -1,5 +1,7 @@
 // The report's text: the count of the areas, each base and size, the page sheet; or the number of the refusal. And the text of late claims
 // behind an order file: the areas when they are made, and how many were, or which was refused.
+#![tactic(auto)]
+
 ghost use Rattle.std.specs.Prelude.{◌≡◌, ◌+◌, ◌*◌, ◌≤◌, min, length};
 ghost use Rattle.report_text.specs.Text.{decimal_text, hex_text, share_text, area_line, area_lines, count_line, pages_line, refused_line, text_of, report_text};
 ghost use Rattle.report_text.specs.LateText.{labelled, last_line, lines_of, late_text, late_slots};

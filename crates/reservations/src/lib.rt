@@ -1,4 +1,6 @@
 // The memory reservation block: its bounds, and its entries as they stand. Devicetree Specification v0.4, section 5.3.
+#![tactic(auto)]
+
 ghost use Rattle.std.specs.Prelude.{◌≡◌};
 ghost use Rattle.reservations.specs.Reservations.{block_in, entry_of};
 

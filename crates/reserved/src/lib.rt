@@ -1,4 +1,6 @@
 // The rules of /reserved-memory: when its children count, which of them, and the one dynamic case that is exact.
+#![tactic(auto)]
+
 ghost use Rattle.std.specs.Prelude.{◌≡◌};
 ghost use Rattle.subtree.specs.Subtree.{node_at, props_of};
 ghost use Rattle.reserved.specs.Number.{cells_number};

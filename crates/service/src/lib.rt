@@ -1,4 +1,6 @@
 // The build for a web service: calls that C and Rust can make. What is lent arrives as a pointer and a length.
+#![tactic(auto)]
+
 ghost use Rattle.std.specs.Prelude.{◌≡◌, replicate};
 ghost use Rattle.startup.specs.Report.{report_number, report_of, slots_after};
 ghost use Rattle.report_text.specs.Text.{report_text};

@@ -1,4 +1,6 @@
 // The page sheet: how many pages are Free inside the limits, how many of them are usable, and the share of the one in the other.
+#![tactic(auto)]
+
 ghost use Rattle.std.specs.Prelude.{◌≡◌};
 ghost use Rattle.memory.specs.Made.{Made};
 ghost use Rattle.sheet.specs.Share.{counted, share_of, bits_of};

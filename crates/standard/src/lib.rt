@@ -1,5 +1,7 @@
 // Standard input and standard output for programs. A read or a write that fails is told on standard error, with what failed and why.
 // No contract can say which bytes are read or written: it says how many of a space hold what was read.
+#![tactic(auto)]
+
 ghost use Rattle.std.specs.Prelude.{◌≤◌, ◌≡◌};
 ghost use Rattle.standard.specs.Input.{Holds};
 ghost use Rattle.standard.specs.Status.{status_of};

@@ -1,5 +1,7 @@
 // The whole build: an order file's registrations, from all its sources in their order, and the finished areas with their page sheet.
 // The memory side of the kernel's src/startup/memory.rs.
+#![tactic(auto)]
+
 ghost use Rattle.std.specs.Prelude.{◌≡◌};
 ghost use Rattle.memory.specs.Map.{map_of, left};
 ghost use Rattle.memory.specs.Made.{Made};

@@ -1,4 +1,6 @@
 // The console that /chosen names, and where it lies.
+#![tactic(auto)]
+
 ghost use Rattle.std.specs.Prelude.{◌≡◌};
 ghost use Rattle.nodes.specs.OnTree.{head_of};
 ghost use Rattle.reading.specs.Values.{value_of};

@@ -1,6 +1,8 @@
 // A stream of cases on standard input, each with the answers of another program: the bytes of it that are held, the
 // numbers in them, and the tally of what differs. Each program lends a space for the bytes that has room for its largest
 // case. No contract can say what is read or written, so `refill` and `report` have none.
+#![tactic(auto)]
+
 ghost use Rattle.std.specs.Prelude.{◌≡◌, ◌+◌, ◌*◌, ◌<◌};
 ghost use Rattle.stream.specs.Cases.{NumberAt, Three, Tells, Ahead, none, and_case};
 

@@ -1,5 +1,7 @@
 // Prints the finished areas of a bootloader list that is given on standard input: the count, and each base and size;
 // or the number of the refusal. A list has to be shorter than 65,536 bytes.
+#![tactic(auto)]
+
 ghost use Rattle.std.specs.Prelude.{◌≡◌, ◌≤◌, length};
 ghost use Rattle.memory.specs.Made.{Made};
 

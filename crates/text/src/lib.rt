@@ -1,4 +1,6 @@
 // String values of properties: up to their first zero byte.
+#![tactic(auto)]
+
 ghost use Rattle.std.specs.Prelude.{◌≡◌};
 ghost use Rattle.text.specs.Strings.{string_at, contains};
 

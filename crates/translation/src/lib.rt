@@ -1,5 +1,7 @@
 // Translation of a device's bus address through every ancestor's `ranges`, with the number of nodes tried. One routine tries a node as
 // the target, the other runs over its children; the levels that are left fall.
+#![tactic(auto)]
+
 ghost use Rattle.std.specs.Prelude.{◌≡◌, ◌+◌};
 ghost use Rattle.nodes.specs.declared.Found.TheVariants.{At};
 ghost use Rattle.nodes.specs.OnTree.{kids_of};

@@ -1,4 +1,6 @@
 // What trees/bench.c times of our reader: a call that C can make.
+#![tactic(auto)]
+
 ghost use Rattle.std.specs.Prelude.{◌≡◌};
 ghost use Rattle.fdt.specs.Opening.{opened_number, opened_of};
 

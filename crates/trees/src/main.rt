@@ -1,5 +1,7 @@
 // Replays a stream of trees on standard input, each with the text that other readers made of it, and says where ours
 // differ. trees/README.md has the layout of the stream and of a text.
+#![tactic(auto)]
+
 use cells::{CellCount, Region};
 use fdt::{Blocks, Opened, Token};
 use nodes::{Found, Value};

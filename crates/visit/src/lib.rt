@@ -1,4 +1,6 @@
 // A tree's claims, one after the other: the visitors of the kernel's src/dtb/mod.rs as a cursor and a step. The map is not known here.
+#![tactic(auto)]
+
 ghost use Rattle.std.specs.Prelude.{◌≡◌};
 ghost use Rattle.cells.specs.Rows.{ranges_of};
 ghost use Rattle.words.specs.Bytes.{part_of};

@@ -1,5 +1,7 @@
 // The two ways that an address goes through the `ranges` of a bus: the soc window, and translation. They differ in the byte at a
 // window's end, and so each has a rule of its own.
+#![tactic(auto)]
+
 ghost use Rattle.std.specs.Prelude.{◌≡◌, true, false};
 ghost use Rattle.cells.specs.Rows.{ranges_of};
 ghost use Rattle.windows.specs.Window.{reach, last_byte, landing, fit_soc, fit_bus, fit_by, window};

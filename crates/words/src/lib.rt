@@ -1,4 +1,6 @@
 // Numbers, strings and parts in a slice of bytes. Every place gets an answer: a byte past the end counts as 0.
+#![tactic(auto)]
+
 ghost use Rattle.std.specs.Prelude.{◌≡◌, get_or, length, ◌+◌, ◌≤◌, ◌<◌};
 ghost use Rattle.words.specs.Bytes.{part_of, Word, Double, Finds};
 ghost use Rattle.words.specs.Little.{Half, Quarter, Eight};

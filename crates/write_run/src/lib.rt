@@ -1,5 +1,7 @@
 // Calls of the writer in bytes, one after the other, made up to the first that is refused: request L1 of document 02, its program. A call is
 // a letter and what belongs to it, little-endian.
+#![tactic(auto)]
+
 ghost use Rattle.std.specs.Prelude.{◌≡◌, cond};
 ghost use Rattle.write_run.specs.Input.{whole, read_at};
 ghost use Rattle.write_run.specs.Run.{stop_by, step_of, stepped, made_of, ran, ran_of};

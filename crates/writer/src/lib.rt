@@ -1,6 +1,8 @@
 // A writer of flattened trees into a lent buffer: request L1 of document 02. Its place is a value that is handed in and back. While it
 // writes, the names grow down from the buffer's end, last byte first; finishing turns them round behind the structure. No call asks anything:
 // every writer value, buffer, name and value gets an answer.
+#![tactic(auto)]
+
 ghost use Rattle.std.specs.Prelude.{◌≡◌, [], ◌∷◌, ◌++◌, reverse, ◌+◌, ◌≤◌, length};
 ghost use Rattle.flattened.specs.Parts.{begins, property, ends, part_size, part_bytes};
 ghost use Rattle.flattened.specs.Blob.{header};
