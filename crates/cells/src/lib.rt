@@ -7,7 +7,7 @@ ghost use Rattle.cells.specs.Rows.{number_at, reg_of, ranges_of, reg_row, range_
 ghost use Rattle.cells.specs.Text.{text_of};
 
 // What a cell property of a node says: so many cells; it is not there; or it is not 4 bytes long.
-#[derive(Drop)]
+#[derive(Clone, Copy)]
 pub enum CellCount {
     Stated(usize),
     Absent,
@@ -15,14 +15,14 @@ pub enum CellCount {
 }
 
 // A row of `reg`.
-#[derive(Drop)]
+#[derive(Clone, Copy)]
 pub struct Region {
     pub address: u64,
     pub size: u64,
 }
 
 // A row of `ranges`.
-#[derive(Drop)]
+#[derive(Clone, Copy)]
 pub struct Range {
     pub child: u64,
     pub parent: u64,
@@ -30,7 +30,7 @@ pub struct Range {
 }
 
 // A row of `reg` by its number: the value is unreadable, there are fewer rows, or the row.
-#[derive(Drop)]
+#[derive(Clone, Copy)]
 pub enum RegRow {
     NoReg,
     PastReg,
@@ -38,7 +38,7 @@ pub enum RegRow {
 }
 
 // The same of `ranges`.
-#[derive(Drop)]
+#[derive(Clone, Copy)]
 pub enum RangeRow {
     NoRange,
     PastRange,
@@ -46,7 +46,7 @@ pub enum RangeRow {
 }
 
 // A string value: where it ends, or that no zero byte ends it.
-#[derive(Drop)]
+#[derive(Clone, Copy)]
 pub enum StringValue {
     Ends(usize),
     Endless,

@@ -17,7 +17,7 @@ use reserved::Exact;
 use windows::Window;
 
 // By which rule children claim memory: as those of /reserved-memory, as those of /soc, or as the root's.
-#[derive(Drop)]
+#[derive(Clone, Copy)]
 pub enum Way {
     Reserve,
     Soc,
@@ -38,7 +38,7 @@ impl Way {
 }
 
 // What a tree is refused for, beyond its form.
-#[derive(Drop)]
+#[derive(Clone, Copy)]
 pub enum Judged {
     Sound,
     UnreadableReg,

@@ -18,7 +18,7 @@ const STEPS: u64 = 1048576;
 
 // Where the parts of a case start: its registrations, the tree, the answer, the claims, the map, the translations, and
 // what comes after the case.
-#[derive(Drop)]
+#[derive(Clone, Copy)]
 struct Parts {
     before: usize,
     tree: usize,

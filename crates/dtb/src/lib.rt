@@ -16,7 +16,7 @@ use memory::{Admitted, Answer, MemoryMap};
 use visit::Step;
 
 // What the tree's call answers. Each case has its number in document 01.
-#[derive(Drop)]
+#[derive(Clone, Copy)]
 pub enum TreeAnswer {
     Done,
     BadHeader,
@@ -44,7 +44,7 @@ impl TreeAnswer {
 }
 
 // The map stands before the answer so that its copies stay aligned.
-#[derive(Drop)]
+#[derive(Clone, Copy)]
 pub struct TreeRegistered {
     pub map: MemoryMap,
     pub answer: TreeAnswer,

@@ -6,7 +6,7 @@ ghost use Rattle.entry.specs.Kind.{number_of, kind_of};
 ghost use Rattle.entry.specs.Entry.{meet, join};
 ghost use Rattle.entry.specs.Claim.{claim, rounded};
 
-#[derive(Drop)]
+#[derive(Clone, Copy)]
 pub enum BootloaderMemoryKind {
     Null,
     Free,
@@ -35,7 +35,7 @@ impl BootloaderMemoryKind {
 }
 
 // What a number says as a kind: one of the seven, or none of them.
-#[derive(Drop)]
+#[derive(Clone, Copy)]
 pub enum KindRead {
     Known(BootloaderMemoryKind),
     Unknown,
@@ -57,7 +57,7 @@ pub fn kind_of(number: u64) -> KindRead
 }
 
 // The addresses from start up to, not including, end, and the number of their kind.
-#[derive(Drop)]
+#[derive(Clone, Copy)]
 pub struct MemoryEntry {
     pub start: u64,
     pub end: u64,
@@ -65,7 +65,7 @@ pub struct MemoryEntry {
 }
 
 // An entry, or none: the Rust's Option.
-#[derive(Drop)]
+#[derive(Clone, Copy)]
 pub enum FoundEntry {
     Entry(MemoryEntry),
     Nothing,

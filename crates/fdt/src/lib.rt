@@ -8,7 +8,7 @@ ghost use Rattle.fdt.specs.Walk.{begin_step, step_of, walked};
 ghost use Rattle.fdt.specs.Opening.{opened_number, blocks_of, opened_of};
 
 // One token of the structure block, with the place of what follows it.
-#[derive(Drop)]
+#[derive(Clone, Copy)]
 pub enum Token {
     // No token can be read here.
     Bad,
@@ -23,7 +23,7 @@ pub enum Token {
 }
 
 // What the walk over a structure block says of it.
-#[derive(Drop)]
+#[derive(Clone, Copy)]
 pub enum Verdict {
     Accepted,
     Broken,
@@ -31,7 +31,7 @@ pub enum Verdict {
 }
 
 // Where the walk stands: the next token's place, the open nodes, the nodes begun, and whether a property may stand here.
-#[derive(Drop)]
+#[derive(Clone, Copy)]
 pub struct State {
     pub at: usize,
     pub depth: usize,
@@ -39,21 +39,21 @@ pub struct State {
     pub props: bool,
 }
 
-#[derive(Drop)]
+#[derive(Clone, Copy)]
 pub enum Step {
     Go(State),
     Stop(Verdict),
 }
 
 // Where a block stands in a tree's bytes, and how long it is.
-#[derive(Drop)]
+#[derive(Clone, Copy)]
 pub struct Block {
     pub at: usize,
     pub len: usize,
 }
 
 // The blocks of an opened tree. The reservation block has no length of its own.
-#[derive(Drop)]
+#[derive(Clone, Copy)]
 pub struct Blocks {
     pub structure: Block,
     pub strings: Block,
@@ -61,7 +61,7 @@ pub struct Blocks {
 }
 
 // What opening a tree answers.
-#[derive(Drop)]
+#[derive(Clone, Copy)]
 pub enum Opened {
     NoTree,
     Tree(Blocks),

@@ -12,7 +12,7 @@ use entry::KindRead;
 use memory::{Answer, MemoryMap};
 
 // What a late claim answers, in the order in which this is checked. Each case has its number in document 02.
-#[derive(Drop)]
+#[derive(Clone, Copy)]
 pub enum LateAnswer {
     Done,
     UnknownKind,
@@ -38,7 +38,7 @@ impl LateAnswer {
 }
 
 // The map, and how many areas the table has, after a late claim. The map stands first so that its copies stay aligned.
-#[derive(Drop)]
+#[derive(Clone, Copy)]
 pub struct Late {
     pub map: MemoryMap,
     pub count: usize,
@@ -46,7 +46,7 @@ pub struct Late {
 }
 
 // The same where the map stands in lent arrays: how many of its slots are held.
-#[derive(Drop)]
+#[derive(Clone, Copy)]
 pub struct LateIn {
     pub size: usize,
     pub count: usize,

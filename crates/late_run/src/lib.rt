@@ -12,7 +12,7 @@ use memory::MemoryMap;
 
 // The map, and how many areas the table has, after the claims that are done; the answer of the first that is refused and its index,
 // counted from 0, or done and how many there are. The map stands first so that its copies stay aligned.
-#[derive(Drop)]
+#[derive(Clone, Copy)]
 pub struct LateRun {
     pub map: MemoryMap,
     pub count: usize,
@@ -21,7 +21,7 @@ pub struct LateRun {
 }
 
 // The same where the map stands in lent arrays: how many of its slots are held.
-#[derive(Drop)]
+#[derive(Clone, Copy)]
 pub struct LateRunIn {
     pub size: usize,
     pub count: usize,

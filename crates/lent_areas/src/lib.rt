@@ -10,14 +10,14 @@ use areas::{Built, Limit};
 use memory::MemoryMap;
 
 // One area of the finished table, as in the kernel's rmm.
-#[derive(Drop)]
+#[derive(Clone, Copy)]
 pub struct MemoryArea {
     pub base: u64,
     pub size: u64,
 }
 
 // The finished areas as numbers, how many of them go into a row of so many slots, and the answer. A refusal has 0 of them.
-#[derive(Drop)]
+#[derive(Clone, Copy)]
 struct AreaTable {
     slots: [u64; 1024],
     count: usize,
@@ -80,7 +80,7 @@ pub fn build(row: &mut [MemoryArea], map: MemoryMap, low: Limit, high: Limit) ->
 }
 
 // A row by value, and what the build into it answers.
-#[derive(Drop)]
+#[derive(Clone, Copy)]
 pub struct Row {
     pub areas: [MemoryArea; 512],
     pub answer: Built,

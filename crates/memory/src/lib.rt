@@ -10,7 +10,7 @@ ghost use Rattle.memory.specs.Made.{Made};
 use entry::{BootloaderMemoryKind, FoundEntry, KindRead, MemoryEntry};
 
 // The map: 512 slots, of which the first `size` are held. Slot i is the entry starts[i], ends[i], kinds[i].
-#[derive(Drop)]
+#[derive(Clone, Copy)]
 pub struct MemoryMap {
     pub starts: [u64; 512],
     pub ends: [u64; 512],
@@ -19,7 +19,7 @@ pub struct MemoryMap {
 }
 
 // What a registration answers. Each case has its number in document 01.
-#[derive(Drop)]
+#[derive(Clone, Copy)]
 pub enum Answer {
     Done,
     UnknownKind,
@@ -39,14 +39,14 @@ impl Answer {
 }
 
 // The map stands before the answer so that its copies stay aligned.
-#[derive(Drop)]
+#[derive(Clone, Copy)]
 pub struct Registered {
     pub map: MemoryMap,
     pub answer: Answer,
 }
 
 // What a registration in place answers, and how many entries are held then.
-#[derive(Drop)]
+#[derive(Clone, Copy)]
 pub struct Admitted {
     pub size: usize,
     pub answer: Answer,

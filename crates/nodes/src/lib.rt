@@ -14,14 +14,14 @@ use cells::CellCount;
 use fdt::Token;
 
 // A node's place, or nothing.
-#[derive(Drop)]
+#[derive(Clone, Copy)]
 pub enum Found {
     At(usize),
     Nothing,
 }
 
 // Where a property's value stands in the structure block and how long it is, or nothing.
-#[derive(Drop)]
+#[derive(Clone, Copy)]
 pub enum Value {
     Here(usize, usize),
     Missing,
@@ -29,7 +29,7 @@ pub enum Value {
 
 // What stands past the properties: a child, with the length of its name and the place after its name; the end of the node, with the
 // place after it; or a token at which nothing goes on.
-#[derive(Drop)]
+#[derive(Clone, Copy)]
 enum Kid {
     Node(usize, usize, usize),
     End(usize),
@@ -37,7 +37,7 @@ enum Kid {
 }
 
 // A child by its place and the place after its name, or nothing.
-#[derive(Drop)]
+#[derive(Clone, Copy)]
 enum Child {
     Is(usize, usize),
     Absent,

@@ -10,7 +10,7 @@ use cells::Region;
 use fdt::Block;
 
 // What a station's order file says: the flags and limits, five ranges, and where its list and its tree stand.
-#[derive(Drop)]
+#[derive(Clone, Copy)]
 pub struct Order {
     pub arm: bool,
     pub low: Limit,
@@ -25,7 +25,7 @@ pub struct Order {
 }
 
 // An order file, or that it breaks its layout.
-#[derive(Drop)]
+#[derive(Clone, Copy)]
 pub enum OrderRead {
     Layout(Order),
     BadOrder,

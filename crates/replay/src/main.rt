@@ -18,7 +18,7 @@ const SLOTS: usize = 2048;
 
 // Where the parts of a case start: its registrations, their answers, the answer of the list, the three maps, the
 // build, the five listings, and what comes after the case.
-#[derive(Drop)]
+#[derive(Clone, Copy)]
 struct Parts {
     claims: usize,
     answers: usize,
@@ -35,7 +35,7 @@ struct Parts {
     end: usize,
 }
 
-#[derive(Drop)]
+#[derive(Clone, Copy)]
 struct Run {
     map: MemoryMap,
     same: bool,

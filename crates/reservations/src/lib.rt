@@ -8,7 +8,7 @@ use cells::Region;
 use fdt::Blocks;
 
 // An entry by its number: an address and a size; the end, (0, 0); or that no whole entry is left.
-#[derive(Drop)]
+#[derive(Clone, Copy)]
 pub enum Reservation {
     Entry(Region),
     End,

@@ -10,14 +10,14 @@ use cells::{CellCount, RegRow, Region};
 use nodes::Value;
 
 // A number of cells, or that it cannot be read.
-#[derive(Drop)]
+#[derive(Clone, Copy)]
 pub enum Number {
     Is(u64),
     NoNumber,
 }
 
 // The one region that a dynamic reservation can only be, or that it is left open.
-#[derive(Drop)]
+#[derive(Clone, Copy)]
 pub enum Exact {
     One(Region),
     NotExact,

@@ -11,14 +11,14 @@ use entry::{FoundEntry, MemoryEntry};
 use memory::MemoryMap;
 
 // None where no page is Free, else usable over Free.
-#[derive(Drop)]
+#[derive(Clone, Copy)]
 pub enum Share {
     NoFree,
     Of(f64),
 }
 
 // For the web service.
-#[derive(Drop)]
+#[derive(Clone, Copy)]
 pub struct PageSheet {
     pub free: u64,
     pub usable: u64,
@@ -26,7 +26,7 @@ pub struct PageSheet {
 }
 
 // The share's 64 bits, or none.
-#[derive(Drop)]
+#[derive(Clone, Copy)]
 pub enum ShareBits {
     NoBits,
     Bits(u64),

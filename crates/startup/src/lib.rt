@@ -20,7 +20,7 @@ use order::{Order, OrderRead};
 use sheet::PageSheet;
 
 // Why an order file is refused, in the order in which this is checked. Each case has its number in document 01.
-#[derive(Drop)]
+#[derive(Clone, Copy)]
 pub enum Refusal {
     BadOrder,
     UnknownKind,
@@ -51,7 +51,7 @@ impl Refusal {
     }
 }
 
-#[derive(Drop)]
+#[derive(Clone, Copy)]
 pub enum Verdict {
     Accepted,
     Rejected(Refusal),
@@ -70,14 +70,14 @@ impl Verdict {
 
 // The map with all registrations of an order file, or the empty one beside the refusal. The map stands first so that its copies stay
 // aligned.
-#[derive(Drop)]
+#[derive(Clone, Copy)]
 pub struct Sources {
     pub map: MemoryMap,
     pub verdict: Verdict,
 }
 
 // What the whole build answers: how many areas were written, with their page sheet; or a refusal, and nothing was.
-#[derive(Drop)]
+#[derive(Clone, Copy)]
 pub enum Report {
     Done(usize, PageSheet),
     Refused(Refusal),
@@ -95,7 +95,7 @@ impl Report {
 }
 
 // The map with all registrations of an order file beside what the build answers, or the empty map beside a refusal.
-#[derive(Drop)]
+#[derive(Clone, Copy)]
 pub struct Start {
     pub map: MemoryMap,
     pub report: Report,

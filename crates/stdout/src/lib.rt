@@ -14,7 +14,7 @@ use nodes::{Found, Value};
 use translation::{Sought, Translated};
 
 // The console's registers, or that there are none to be had.
-#[derive(Drop)]
+#[derive(Clone, Copy)]
 pub enum Uart {
     Range(Region),
     NoUart,

@@ -10,7 +10,7 @@ use standard::Input;
 
 // How many cases there were, how many of them differ, and the first that does, counted from 0, with its part. `cut` says
 // that the stream ended, or made no sense, in the midst of a case.
-#[derive(Drop)]
+#[derive(Clone, Copy)]
 pub struct Tally {
     pub cases: u64,
     pub differ: u64,

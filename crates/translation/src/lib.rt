@@ -16,14 +16,14 @@ use nodes::{Found, Value};
 use windows::Window;
 
 // What is translated: a given region of the target, or the first entry of its `reg`.
-#[derive(Drop)]
+#[derive(Clone, Copy)]
 pub enum Sought {
     Given(Region),
     FirstReg,
 }
 
 // The region at its translated address, with the number of nodes tried; or none.
-#[derive(Drop)]
+#[derive(Clone, Copy)]
 pub enum Translated {
     Found(Region, usize),
     NoAddress,
@@ -42,7 +42,7 @@ impl Translated {
 
 // A search under way: the target's address and size so far and the number of nodes tried; the target was met and has no address; or it
 // was not met among so many nodes.
-#[derive(Drop)]
+#[derive(Clone, Copy)]
 enum Search {
     Gone(u64, u64, usize),
     Lost,

@@ -25,7 +25,7 @@ const SMALL: usize = 16384;
 const PATH: usize = 8192;
 
 // A step of the walk: the next node and how many nodes stand above it; the end; or a place where no tree is.
-#[derive(Drop)]
+#[derive(Clone, Copy)]
 enum Next {
     Node(usize, usize),
     Done,

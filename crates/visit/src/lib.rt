@@ -23,7 +23,7 @@ use stdout::Uart;
 use windows::Window;
 
 // What is claimed of memory.
-#[derive(Drop)]
+#[derive(Clone, Copy)]
 pub struct Claimed {
     pub base: u64,
     pub size: u64,
@@ -31,7 +31,7 @@ pub struct Claimed {
 }
 
 // The sources of a tree's claims: the reservation block, rows of children by their rule, the ranges of a virtual board, the console.
-#[derive(Drop)]
+#[derive(Clone, Copy)]
 pub enum Stage {
     Entries,
     Children(Way),
@@ -42,7 +42,7 @@ pub enum Stage {
 
 // How far the claims of a tree are taken: the stage, the next entry of a value or a block, the child after it, and what the children's
 // values are read by.
-#[derive(Drop)]
+#[derive(Clone, Copy)]
 pub struct Cursor {
     pub stage: Stage,
     pub row: usize,
@@ -55,7 +55,7 @@ pub struct Cursor {
 }
 
 // A step gives a claim or none, and where to go on; or all is claimed.
-#[derive(Drop)]
+#[derive(Clone, Copy)]
 pub enum Step {
     Claims(Claimed, Cursor),
     On(Cursor),

@@ -9,7 +9,7 @@ ghost use Rattle.windows.specs.Window.{reach, last_byte, landing, fit_soc, fit_b
 use cells::{CellCount, Range, RangeRow};
 
 // Where an address leads: to another; nowhere; or the value cannot be read.
-#[derive(Drop)]
+#[derive(Clone, Copy)]
 pub enum Window {
     To(u64),
     Nowhere,
@@ -17,7 +17,7 @@ pub enum Window {
 }
 
 // What one range does with a region: it takes it to an address; it takes it, and the sum does not fit; or it does not have it.
-#[derive(Drop)]
+#[derive(Clone, Copy)]
 enum Fit {
     Gives(u64),
     Over,

@@ -10,7 +10,7 @@ use writer::{WriteAnswer, Writer, Wrote};
 
 // What stands at a place: a reservation entry with its address and size; a node that begins, with its name's place and length; a property
 // with the places and lengths of its name and its value; the end of a node; the finish; or none of them.
-#[derive(Drop)]
+#[derive(Clone, Copy)]
 pub enum CallRead {
     NoCall,
     Reservation(u64, u64),
@@ -21,14 +21,14 @@ pub enum CallRead {
 }
 
 // That, and the place behind it: 0 where no call stands.
-#[derive(Drop)]
+#[derive(Clone, Copy)]
 pub struct Read {
     pub next: usize,
     pub call: CallRead,
 }
 
 // How far the calls went: on to the next one; no call stands here; a call is refused; or the input ends, and the blob is finished or not.
-#[derive(Drop)]
+#[derive(Clone, Copy)]
 pub enum Stop {
     Goes,
     NoCall,
@@ -38,7 +38,7 @@ pub enum Stop {
 }
 
 // The writer after a call, how long the blob is, and whether the calls go on.
-#[derive(Drop)]
+#[derive(Clone, Copy)]
 pub struct Step {
     pub writer: Writer,
     pub size: usize,
@@ -47,7 +47,7 @@ pub struct Step {
 
 // How long the finished blob is, or 0; the index of the call that stopped the run, counted from 0, or how many were made; and what
 // stopped it.
-#[derive(Drop)]
+#[derive(Clone, Copy)]
 pub struct WriteRun {
     pub size: usize,
     pub index: usize,

@@ -13,7 +13,7 @@ ghost use Rattle.writer.specs.Calls.{outcome, wrote, finished};
 
 // Where a writer stands: the reservations, the bytes of the structure block and of the strings block, the open nodes, the nodes begun,
 // whether a property may stand here, and whether it has finished.
-#[derive(Drop)]
+#[derive(Clone, Copy)]
 pub struct Writer {
     pub reserved: usize,
     pub structure: usize,
@@ -25,7 +25,7 @@ pub struct Writer {
 }
 
 // What a call answers, in the order in which this is checked. Each case has its number in document 02.
-#[derive(Drop)]
+#[derive(Clone, Copy)]
 pub enum WriteAnswer {
     Done,
     OutOfTurn,
@@ -47,14 +47,14 @@ impl WriteAnswer {
 }
 
 // The writer after a call, and the answer.
-#[derive(Drop)]
+#[derive(Clone, Copy)]
 pub struct Wrote {
     pub writer: Writer,
     pub answer: WriteAnswer,
 }
 
 // The same after finishing, with how many bytes the blob has: 0 where it is refused.
-#[derive(Drop)]
+#[derive(Clone, Copy)]
 pub struct Finished {
     pub writer: Writer,
     pub size: usize,

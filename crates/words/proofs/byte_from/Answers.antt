@@ -1,0 +1,22 @@
+use mathlib.Core.Path.{◌≡◌, refl, sym, ◌∙◌}
+use Prim.Native.Nat.{◌-◌}
+use native.Mathlib.Omega.{arith}
+use lib.ListN.{length}
+use Rattle.words.specs.Bytes.{first_byte}
+use Rattle.words.proofs.BytesLaws.{first_stop, first_step, first_none, finds}
+use Rattle.words.proofs.byte_from.Goals as goal
+
+pub returns-then-s-i : goal.returns-then-s-i
+returns-then-s-i c =
+    finds _ _ _
+    (sym
+    (c.loop-i.invariant ∙
+    first_stop _ _ _ c.loop-i-test.true c.if-s-i.true))
+
+pub loop-i-preserved : goal.loop-i-preserved
+loop-i-preserved c =
+    c.loop-i.invariant ∙
+    first_step _ _ _ c.loop-i-test.true c.if-s-i.false
+
+pub returns : goal.returns
+returns c = finds _ _ _ (sym (c.loop-i.invariant ∙ first_none _ _ _ c.loop-i-test.false))
