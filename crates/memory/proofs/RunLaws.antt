@@ -29,7 +29,7 @@ pub all_made : (p : ℕ) (m : MemoryMap) (cs : List Claim) → Page p → Made p
 unfolding registered_all
 all_made p m [] g h = h
 all_made p m (c ∷ cs) g h =
-    cond_made p (is_done (registered p m c).answer) _ _ (all_made p _ cs g (registered_made p m c g h)) (registered_made p m c g h)
+    cond_made p (is_done (registered p m c).answer) _ _ (all_made p (registered p m c).map cs g (registered_made p m c g h)) (registered_made p m c g h)
 
 pub settled_made : (p : ℕ) (m : MemoryMap) (r : Registered) → Made p m → Made p r.map → Made p (settled m r).map
 unfolding settled

@@ -11,23 +11,23 @@ pub returns-then-s-eq0 : goal.returns-then-s-eq0
 returns-then-s-eq0 c = says_none _ (omega arith)
 
 pub returns-then-not-good_header : goal.returns-then-not-good_header
-returns-then-not-good_header c = says_header _ c.if-s-eq0.false (sym c.good_header.ensures ∙ not-true _ c.if-not-good_header.true)
+returns-then-not-good_header c = says_header _ c.if-s-eq0.false (sym c.good_header.ensures ∙ c.if-not-good_header.true)
 
 pub be32-requires : goal.be32-requires
-be32-requires c = let g = (good_header_lem _).0 (sym c.good_header.ensures ∙ not-false _ c.if-not-good_header.false) in omega arith
+be32-requires c = let g = (good_header_lem _).0 (sym c.good_header.ensures ∙ c.if-not-good_header.false) in omega arith
 
 pub returns-then-be32-gt1048576 : goal.returns-then-be32-gt1048576
-returns-then-be32-gt1048576 c = let d = c in says_large _ d.if-s-eq0.false (sym d.good_header.ensures ∙ not-false _ d.if-not-good_header.false) (omega arith)
+returns-then-be32-gt1048576 c = let d = c in says_large _ d.if-s-eq0.false (sym d.good_header.ensures ∙ d.if-not-good_header.false) (omega arith)
 
 pub blocks_of-found-requires : goal.blocks_of-found-requires
-blocks_of-found-requires c = let d = c in let g = (good_header_lem _).0 (sym d.good_header.ensures ∙ not-false _ d.if-not-good_header.false) in omega arith
+blocks_of-found-requires c = let d = c in let g = (good_header_lem _).0 (sym d.good_header.ensures ∙ d.if-not-good_header.false) in omega arith
 
 pub returns-in-Accepted : goal.returns-in-Accepted
 returns-in-Accepted c =
     let w = c in
     let k = w in
     let g = k in
-    says_judged _ g.if-s-eq0.false (sym g.good_header.ensures ∙ not-false _ g.if-not-good_header.false) _ _ _ _ _ (omega arith)
+    says_judged _ g.if-s-eq0.false (sym g.good_header.ensures ∙ g.if-not-good_header.false) _ _ _ _ _ (omega arith)
     k.blocks_of-found.ensures w.part.ensures w.part-2.ensures w.walk.ensures c.in-Accepted.is
 
 pub returns-in-Broken : goal.returns-in-Broken
@@ -35,7 +35,7 @@ returns-in-Broken c =
     let w = c in
     let k = w in
     let g = k in
-    says_judged _ g.if-s-eq0.false (sym g.good_header.ensures ∙ not-false _ g.if-not-good_header.false) _ _ _ _ _ (omega arith)
+    says_judged _ g.if-s-eq0.false (sym g.good_header.ensures ∙ g.if-not-good_header.false) _ _ _ _ _ (omega arith)
     k.blocks_of-found.ensures w.part.ensures w.part-2.ensures w.walk.ensures c.in-Broken.is
 
 pub returns-in-Over : goal.returns-in-Over
@@ -43,5 +43,5 @@ returns-in-Over c =
     let w = c in
     let k = w in
     let g = k in
-    says_judged _ g.if-s-eq0.false (sym g.good_header.ensures ∙ not-false _ g.if-not-good_header.false) _ _ _ _ _ (omega arith)
+    says_judged _ g.if-s-eq0.false (sym g.good_header.ensures ∙ g.if-not-good_header.false) _ _ _ _ _ (omega arith)
     k.blocks_of-found.ensures w.part.ensures w.part-2.ensures w.walk.ensures c.in-Over.is
