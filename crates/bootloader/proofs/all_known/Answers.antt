@@ -1,10 +1,9 @@
 use mathlib.Core.Path.{◌≡◌, ap, sym, ◌∙◌}
-use Prim.Native.Nat.{ℕ, ◌≤◌, ◌-◌, ◌*◌, ◌/◌}
+use Prim.Native.Nat.{ℕ, ◌-◌, ◌/◌}
 use native.Mathlib.Omega.{arith}
 use lib.ListN.{length}
-use borrow.Author.Rules.{rules}
 use Rattle.entry.specs.Kind.{kind_of}
-use Rattle.bootloader.specs.List.{is_known, all_of, claims_at, all_known}
+use Rattle.bootloader.specs.List.{is_known}
 use Rattle.bootloader.proofs.ListLaws.{known_done, known_step, known_stop}
 use Rattle.bootloader.proofs.all_known.Goals as goal
 

@@ -1,8 +1,6 @@
 -- `register_bootloader_areas` judges all kinds, registers on a copy, and hands back the caller's map where that is refused.
 use mathlib.Core.Path.{◌≡◌, ap, sym, ◌∙◌}
 use mathlib.Core.Bool.{true}
-use borrow.Author.Rules.{rules}
-use borrow.Author.Tests.{not-true, not-false}
 use Rattle.memory.specs.declared.Registered.{Registered}
 use Rattle.memory.specs.Map.{left}
 use Rattle.memory.specs.Run.{is_done}

@@ -1,15 +1,13 @@
 use mathlib.Core.Path.{◌≡◌, ap, sym, ◌∙◌}
-use Prim.Native.Nat.{ℕ, ◌≤◌, ◌-◌, ◌*◌, ◌/◌}
+use Prim.Native.Nat.{ℕ, ◌-◌, ◌/◌}
 use native.Mathlib.Omega.{arith}
 use lib.ListN.{length}
-use borrow.Author.Rules.{rules}
 use Rattle.page.proofs.Laws.{page}
 use Rattle.memory.specs.declared.MemoryMap.{MemoryMap}
 use Rattle.memory.specs.declared.Registered.{Registered}
 use Rattle.memory.specs.Map.{map_of, left, registered}
-use Rattle.memory.specs.Made.{Made}
-use Rattle.memory.specs.Run.{is_done, registered_all}
-use Rattle.bootloader.specs.List.{claims_at, claim_at}
+use Rattle.memory.specs.Run.{is_done}
+use Rattle.bootloader.specs.List.{claim_at}
 use Rattle.bootloader.proofs.ListLaws.{all_done, all_step, all_stop}
 use Rattle.memory.proofs.MapLaws.{one_made}
 use Rattle.memory.proofs.Refusing.{refused}

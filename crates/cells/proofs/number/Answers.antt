@@ -1,6 +1,5 @@
 -- `cells::number` meets its contract: four bytes, or else eight. Assumes nothing.
 use borrow.Author.Tests.{eq-eqb, ne_eqb}
-use borrow.Author.Rules.{rules}
 use Rattle.cells.proofs.number.Goals as goal
 
 pub returns-then-w-eq4 : goal.returns-then-w-eq4

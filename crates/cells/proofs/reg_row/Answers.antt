@@ -5,7 +5,6 @@ use mathlib.Core.Logic.{inl, inr}
 use native.Mathlib.Omega.{arith}
 use Rattle.cells.proofs.CountLaws.{width_small}
 use Rattle.cells.proofs.RowsLaws.{in_room, reg_empty, reg_no, reg_past, reg_row_lem}
-use borrow.Author.Rules.{rules}
 use Rattle.cells.proofs.reg_row.Goals as goal
 
 pub returns-then-v-eq0 : goal.returns-then-v-eq0

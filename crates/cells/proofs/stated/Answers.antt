@@ -1,7 +1,6 @@
 -- `cells::stated` meets its contract: four bytes state a count, and other lengths none. Assumes nothing.
 use mathlib.Core.Path.{sym}
 use Rattle.cells.proofs.CountLaws.{stated_is, stated_not}
-use borrow.Author.Rules.{rules}
 use Rattle.cells.proofs.stated.Goals as goal
 
 pub returns-then-v-eq4 : goal.returns-then-v-eq4

@@ -1,7 +1,6 @@
 -- `cells::text` meets its contract: the first zero byte is in the value, or there is none. Assumes nothing.
 use mathlib.Core.Path.{sym}
 use Rattle.cells.proofs.TextLaws.{text_in, text_past}
-use borrow.Author.Rules.{rules}
 use Rattle.cells.proofs.text.Goals as goal
 
 pub returns-then-end-v : goal.returns-then-end-v

@@ -1,5 +1,4 @@
 -- `cells::width` meets its contract: each arm knows which count it has. Assumes nothing.
-use borrow.Author.Rules.{rules}
 use Rattle.cells.proofs.width.Goals as goal
 
 pub returns-in-Stated : goal.returns-in-Stated

@@ -1,7 +1,6 @@
 -- `round` rounds a claim by its kind.
 use mathlib.Core.Path.{sym}
 use native.Mathlib.Omega.{arith}
-use borrow.Author.Rules.{rules}
 use Rattle.entry.specs.Claim.{inward, outward}
 use Rattle.entry.proofs.ClaimLaws.{free_inward, other_outward}
 use Rattle.entry.proofs.round.Goals as goal

@@ -1,7 +1,6 @@
 -- `fdt::begun` meets its contract: each way out is one way through the tests of `begin_step`. Assumes nothing.
 use borrow.Author.Tests.{ne_eqb, eq-eqb, le-leb, lt-leb}
 use Rattle.fdt.specs.Walk.{begin_step}
-use borrow.Author.Rules.{rules}
 use Rattle.fdt.proofs.begun.Goals as goal
 
 pub returns-then-nodes-ne0 : goal.returns-then-nodes-ne0

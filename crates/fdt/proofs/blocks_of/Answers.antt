@@ -1,6 +1,5 @@
 -- `fdt::blocks_of` meets its contract: each number is the header's. Assumes nothing.
 use Rattle.fdt.specs.Opening.{blocks_of}
-use borrow.Author.Rules.{rules}
 use Rattle.fdt.proofs.blocks_of.Goals as goal
 
 pub returns : goal.returns

@@ -1,7 +1,6 @@
 -- `fdt::good_header` meets its contract: each test that fails is a field that no good header has. Assumes nothing.
 use native.Mathlib.Omega.{arith}
 use Rattle.fdt.proofs.HeaderLaws.{bad_header, aligned_decides}
-use borrow.Author.Rules.{rules}
 use Rattle.fdt.proofs.good_header.Goals as goal
 
 pub returns-then-s-lt40 : goal.returns-then-s-lt40

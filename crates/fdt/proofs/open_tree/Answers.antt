@@ -1,10 +1,8 @@
 -- `fdt::open_tree` meets its contract: each way out is a law of VerdictLaws. Assumes nothing.
 use mathlib.Core.Path.{sym, ◌∙◌}
 use native.Mathlib.Omega.{arith}
-use borrow.Author.Tests.{not-true, not-false}
 use Rattle.fdt.proofs.HeaderLaws.{good_header_lem}
 use Rattle.fdt.proofs.VerdictLaws.{says_none, says_header, says_large, says_judged}
-use borrow.Author.Rules.{rules}
 use Rattle.fdt.proofs.open_tree.Goals as goal
 
 pub returns-then-s-eq0 : goal.returns-then-s-eq0

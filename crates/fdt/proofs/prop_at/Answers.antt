@@ -1,7 +1,6 @@
 -- `fdt::prop_at` meets its contract: each way out is a law of TokLaws. Assumes nothing.
 use native.Mathlib.Omega.{arith}
 use Rattle.fdt.proofs.TokLaws.{prop_short, prop_long, prop_is, prop_nameless}
-use borrow.Author.Rules.{rules}
 use Rattle.fdt.proofs.prop_at.Goals as goal
 
 pub returns-then-left-lt12 : goal.returns-then-left-lt12

@@ -1,7 +1,6 @@
 -- `fdt::stepped` meets its contract: each way out is one way through `step_of`. Assumes nothing.
 use borrow.Author.Tests.{ne_eqb, eq-eqb}
 use Rattle.fdt.specs.Walk.{step_of}
-use borrow.Author.Rules.{rules}
 use Rattle.fdt.proofs.stepped.Goals as goal
 
 pub returns-then-depth-eq0 : goal.returns-then-depth-eq0

@@ -1,7 +1,6 @@
 -- `fdt::token_at` meets its contract: each way out is a law of TokLaws. Assumes nothing.
 use native.Mathlib.Omega.{arith}
 use Rattle.fdt.proofs.TokLaws.{at_short, at_begin, at_nameless, at_end, at_prop, at_nop, at_fin, at_early, at_other}
-use borrow.Author.Rules.{rules}
 use Rattle.fdt.proofs.token_at.Goals as goal
 
 pub returns-then-structure-lt4 : goal.returns-then-structure-lt4

@@ -1,9 +1,7 @@
-use mathlib.Core.Path.{◌≡◌, refl, sym, ◌∙◌}
-use Prim.Native.Nat.{ℕ, suc, ◌≤◌, ◌+◌, ◌-◌}
+use mathlib.Core.Path.{refl, sym, ◌∙◌}
 use native.Mathlib.Omega.{arith}
-use borrow.Author.Rules.{rules}
 use lib.ListN.{length}
-use Rattle.fdt.specs.Walk.{walk_at, walked}
+use Rattle.fdt.specs.Walk.{walked}
 use Rattle.fdt.proofs.WalkLaws.{step_is, step_less, step_on, step_off}
 use Rattle.fdt.proofs.walk.Goals as goal
 

@@ -1,12 +1,9 @@
 -- `fdt::walk` meets its contract. The invariant: more tokens are allowed than the block has left, and the walk from here ends as the
 -- whole walk does. The measure is what is left of the block. Assumes nothing.
-use mathlib.Core.Path.{◌≡◌, refl, sym, ◌∙◌}
+use mathlib.Core.Path.{◌≡◌}
 use Prim.Native.Nat.{ℕ, suc, ◌≤◌, ◌+◌, ◌-◌}
-use native.Mathlib.Omega.{arith}
-use borrow.Author.Rules.{rules}
 use lib.ListN.{length}
 use Rattle.fdt.specs.Walk.{walk_at, walked}
-use Rattle.fdt.proofs.WalkLaws.{step_is, step_less, step_on, step_off}
 use Rattle.fdt.proofs.walk.Given as goal
 
 abbrev pub invariant-loop-next : goal.invariant-loop-next

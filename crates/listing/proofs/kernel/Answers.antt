@@ -1,11 +1,9 @@
 use mathlib.Core.Path.{◌≡◌, sym, ◌∙◌}
-use Prim.Native.Nat.{ℕ, ◌≤◌, ◌-◌}
+use Prim.Native.Nat.{ℕ, ◌-◌}
 use native.Mathlib.Omega.{arith}
-use lib.Dec.{eqb}
-use borrow.Author.Rules.{rules}
 use borrow.Author.Tests.{eq-eqb, ne_eqb}
-use Rattle.memory.specs.Map.{at, slots_of}
-use Rattle.listing.specs.Listing.{entries_from, first, first_of}
+use Rattle.memory.specs.Map.{at}
+use Rattle.listing.specs.Listing.{first_of}
 use Rattle.listing.proofs.ListingLaws.{first_done, first_takes, first_leaves}
 use Rattle.listing.proofs.kernel.Goals as goal
 

@@ -1,13 +1,9 @@
 -- `kernel` looks at the held entries in turn. The invariant: what is left to look at decides.
-use mathlib.Core.Path.{◌≡◌, sym, ◌∙◌}
-use Prim.Native.Nat.{ℕ, ◌≤◌, ◌-◌}
-use native.Mathlib.Omega.{arith}
+use mathlib.Core.Path.{◌≡◌}
+use Prim.Native.Nat.{◌≤◌, ◌-◌}
 use lib.Dec.{eqb}
-use borrow.Author.Rules.{rules}
-use borrow.Author.Tests.{eq-eqb, ne_eqb}
-use Rattle.memory.specs.Map.{at, slots_of}
+use Rattle.memory.specs.Map.{slots_of}
 use Rattle.listing.specs.Listing.{entries_from, first, first_of}
-use Rattle.listing.proofs.ListingLaws.{first_done, first_takes, first_leaves}
 use Rattle.listing.proofs.kernel.Given as goal
 
 abbrev pub invariant-loop-i : goal.invariant-loop-i

@@ -1,10 +1,8 @@
 use mathlib.Core.Path.{ap₂, sym, ◌∙◌}
-use Prim.Native.Nat.{ℕ, ◌-◌}
-use lib.ListN.{length}
-use borrow.Author.Rules.{rules}
+use Prim.Native.Nat.{ℕ}
 use Rattle.memory.specs.Map.{Slots, at, put, slots_of, refilled, blank}
-use Rattle.listing.specs.Listing.{held, wants, those, laid, holding, picked}
-use Rattle.listing.proofs.ListingLaws.{Picking, picking_begins, picking_takes, picking_leaves, picking_ends}
+use Rattle.listing.specs.Listing.{holding, picked}
+use Rattle.listing.proofs.ListingLaws.{picking_begins, picking_takes, picking_leaves, picking_ends}
 use Rattle.listing.proofs.pick.Goals as goal
 
 pub loop-i-init : goal.loop-i-init

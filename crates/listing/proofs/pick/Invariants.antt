@@ -1,11 +1,9 @@
 -- `pick` goes over the held entries in turn. The invariant: what is left to go over, laid where we are, ends as the whole does.
-use mathlib.Core.Path.{ap₂, sym, ◌∙◌}
-use Prim.Native.Nat.{ℕ, ◌-◌}
+use Prim.Native.Nat.{◌-◌}
 use lib.ListN.{length}
-use borrow.Author.Rules.{rules}
-use Rattle.memory.specs.Map.{Slots, at, put, slots_of, refilled, blank}
-use Rattle.listing.specs.Listing.{held, wants, those, laid, holding, picked}
-use Rattle.listing.proofs.ListingLaws.{Picking, picking_begins, picking_takes, picking_leaves, picking_ends}
+use Rattle.memory.specs.Map.{slots_of, blank}
+use Rattle.listing.specs.Listing.{held, wants, those, laid}
+use Rattle.listing.proofs.ListingLaws.{Picking}
 use Rattle.listing.proofs.pick.Given as goal
 
 abbrev pub invariant-loop-i : goal.invariant-loop-i

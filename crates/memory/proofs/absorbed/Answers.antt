@@ -1,5 +1,4 @@
 -- `absorbed` combines two entries of one kind.
-use borrow.Author.Rules.{rules}
 use borrow.Author.Tests.{eq-eqb, ne_eqb}
 use Rattle.memory.specs.Map.{absorb}
 use Rattle.memory.proofs.absorbed.Goals as goal

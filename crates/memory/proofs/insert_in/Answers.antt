@@ -1,8 +1,7 @@
 use mathlib.Core.Path.{◌≡◌, sym, ◌∙◌}
-use Prim.Native.Nat.{◌-◌, ◌≤◌}
+use Prim.Native.Nat.{◌-◌}
 use native.Mathlib.Omega.{arith}
-use borrow.Author.Rules.{rules}
-use Rattle.memory.specs.Map.{Pass, pass, begin, at, put, map_of, slots_as}
+use Rattle.memory.specs.Map.{Pass, begin, at, put, slots_as}
 use Rattle.memory.proofs.PassLaws.{pass_absorbs, pass_passes}
 use Rattle.memory.proofs.MapLaws.{inserted_full, inserted_room}
 use Rattle.memory.proofs.insert_in.Goals as goal

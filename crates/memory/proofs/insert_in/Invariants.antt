@@ -1,11 +1,7 @@
 -- `insert_in` is one pass over the held slots, and then the new entry goes last. The invariant: the pass from here ends as the whole pass does.
-use mathlib.Core.Path.{◌≡◌, sym, ◌∙◌}
+use mathlib.Core.Path.{◌≡◌}
 use Prim.Native.Nat.{◌-◌, ◌≤◌}
-use native.Mathlib.Omega.{arith}
-use borrow.Author.Rules.{rules}
-use Rattle.memory.specs.Map.{Pass, pass, begin, at, put, map_of, slots_as}
-use Rattle.memory.proofs.PassLaws.{pass_absorbs, pass_passes}
-use Rattle.memory.proofs.MapLaws.{inserted_full, inserted_room}
+use Rattle.memory.specs.Map.{pass, begin, map_of, slots_as}
 use Rattle.memory.proofs.insert_in.Given as goal
 
 abbrev pub invariant-loop-index : goal.invariant-loop-index

@@ -1,7 +1,6 @@
 -- `register_in` judges the kind, passes over what registers nothing, and inserts the rounded range.
 use mathlib.Core.Path.{sym, ◌∙◌}
 use native.Mathlib.Omega.{arith}
-use borrow.Author.Rules.{rules}
 use Rattle.memory.proofs.MapLaws.{unknown_registered, null_registered, none_registered, empty_registered, some_registered}
 use Rattle.memory.proofs.register_in.Goals as goal
 

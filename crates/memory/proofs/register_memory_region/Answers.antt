@@ -1,5 +1,4 @@
 -- `register_memory_region` registers by the kind's number.
-use borrow.Author.Rules.{rules}
 use Rattle.memory.proofs.register_memory_region.Goals as goal
 
 pub returns : goal.returns

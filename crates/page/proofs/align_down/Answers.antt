@@ -1,4 +1,3 @@
-use borrow.Author.Rules.{rules}
 use mathlib.Core.Path.{refl}
 use Rattle.page.specs.Round.{down}
 use Rattle.page.proofs.align_down.Goals as goal

@@ -1,4 +1,3 @@
-use borrow.Author.Rules.{rules}
 use mathlib.Core.Path.{ap, ◌∙◌}
 use Rattle.page.specs.Round.{down}
 use Rattle.page.proofs.Laws.{up_code, page}

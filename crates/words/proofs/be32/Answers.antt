@@ -4,7 +4,6 @@ use mathlib.Core.Path.{sym}
 use native.Mathlib.Omega.{arith}
 use Rattle.words.specs.Bytes.{word}
 use Rattle.words.proofs.BytesLaws.{word_past}
-use borrow.Author.Rules.{rules}
 use Rattle.words.proofs.be32.Goals as goal
 
 pub returns-then-s-at : goal.returns-then-s-at

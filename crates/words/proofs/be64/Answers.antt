@@ -3,7 +3,6 @@ use mathlib.Core.Path.{sym}
 use native.Mathlib.Omega.{arith}
 use Rattle.words.specs.Bytes.{double}
 use Rattle.words.proofs.BytesLaws.{double_past}
-use borrow.Author.Rules.{rules}
 use Rattle.words.proofs.be64.Goals as goal
 
 pub returns-then-s-at : goal.returns-then-s-at

@@ -1,7 +1,6 @@
 -- `words::byte` meets its contract: inside the slice the element is a byte, past its end 0 stands for it. Assumes nothing.
 use mathlib.Core.Path.{sym, refl}
 use native.Mathlib.Omega.{arith}
-use borrow.Author.Rules.{rules}
 use lib.ListN.{get_or-eq_default}
 use Rattle.words.proofs.byte.Goals as goal
 

@@ -1,8 +1,4 @@
-use mathlib.Core.Path.{◌≡◌, refl, sym, ◌∙◌}
-use Prim.Native.Nat.{◌-◌}
-use native.Mathlib.Omega.{arith}
-use lib.ListN.{length}
-use Rattle.words.specs.Bytes.{first_byte}
+use mathlib.Core.Path.{sym, ◌∙◌}
 use Rattle.words.proofs.BytesLaws.{first_stop, first_step, first_none, finds}
 use Rattle.words.proofs.byte_from.Goals as goal
 

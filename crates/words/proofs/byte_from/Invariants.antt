@@ -1,11 +1,9 @@
 -- `words::byte_from` meets its contract. The loop's invariant: the first byte from the start on is the first one from `i` on.
 -- The measure is what is left of the slice. Assumes nothing.
-use mathlib.Core.Path.{◌≡◌, refl, sym, ◌∙◌}
+use mathlib.Core.Path.{◌≡◌}
 use Prim.Native.Nat.{◌-◌}
-use native.Mathlib.Omega.{arith}
 use lib.ListN.{length}
 use Rattle.words.specs.Bytes.{first_byte}
-use Rattle.words.proofs.BytesLaws.{first_stop, first_step, first_none, finds}
 use Rattle.words.proofs.byte_from.Given as goal
 
 abbrev pub invariant-loop-i : goal.invariant-loop-i

@@ -4,7 +4,6 @@ use mathlib.Core.Path.{sym}
 use native.Mathlib.Omega.{arith}
 use Rattle.words.specs.Little.{half}
 use Rattle.words.proofs.LittleLaws.{half_past}
-use borrow.Author.Rules.{rules}
 use Rattle.words.proofs.le16.Goals as goal
 
 pub returns-then-s-at : goal.returns-then-s-at

@@ -3,7 +3,6 @@ use mathlib.Core.Path.{sym}
 use native.Mathlib.Omega.{arith}
 use Rattle.words.specs.Little.{eight}
 use Rattle.words.proofs.LittleLaws.{eight_past}
-use borrow.Author.Rules.{rules}
 use Rattle.words.proofs.le64.Goals as goal
 
 pub returns-then-s-at : goal.returns-then-s-at

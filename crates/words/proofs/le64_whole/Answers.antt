@@ -2,7 +2,6 @@
 use mathlib.Core.Path.{sym, ◌∙◌}
 use native.Mathlib.Omega.{arith}
 use Rattle.words.proofs.LittleLaws.{eight_is}
-use borrow.Author.Rules.{rules}
 use Rattle.words.proofs.le64_whole.Goals as goal
 
 pub returns : goal.returns

@@ -2,7 +2,6 @@
 use mathlib.Core.Path.{sym}
 use native.Mathlib.Omega.{arith}
 use Rattle.words.proofs.BytesLaws.{part_none, part_cut}
-use borrow.Author.Rules.{rules}
 use Rattle.words.proofs.part.Goals as goal
 
 pub returns-then-s-len : goal.returns-then-s-len

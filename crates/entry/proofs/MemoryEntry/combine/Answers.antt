@@ -1,6 +1,5 @@
 -- `MemoryEntry::combine` gives the union exactly where nothing lies between the two.
 use native.Mathlib.Omega.{arith}
-use borrow.Author.Rules.{rules}
 use Rattle.entry.specs.Entry.{union}
 use Rattle.entry.proofs.EntryLaws.{touch_joins, gap_joins}
 use Rattle.entry.proofs.MemoryEntry.combine.Goals as goal

@@ -1,6 +1,5 @@
 -- `MemoryEntry::intersect` gives the overlap exactly where it is not empty.
 use native.Mathlib.Omega.{arith}
-use borrow.Author.Rules.{rules}
 use borrow.Author.Tests.{lt-ltb, le-ltb}
 use Prim.Native.Nat.{◌<◌, ◌≤◌, min, max}
 use Rattle.entry.specs.Entry.{overlap, meet}
