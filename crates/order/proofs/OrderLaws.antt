@@ -40,15 +40,14 @@ from_limit true x h = refl
 from_limit false x h = eq-eqb _ _ (h refl)
 
 -- what the test of a limit answers, and the tests of that answer
-pub limit_bad : (f : Bool) (x : ℕ) {r : Bool} → r ≡ (f || eqb x 0) → not r ≡ true → (f ≡ false → x ≡ 0) → ⊥
+pub limit_bad : (f : Bool) (x : ℕ) {r : Bool} → r ≡ (f || eqb x 0) → r ≡ false → (f ≡ false → x ≡ 0) → ⊥
 limit_bad f x {r} e n h =
-    let a : r ≡ false = not-true r n in
     let b = from_limit f x h in
     let z : ◌≡◌ {A = ℕ} 0 1 = cc in
     omega arith
 
-pub limit_held : {r t : Bool} → r ≡ t → not r ≡ false → t ≡ true
-limit_held {r} e n = sym e ∙ not-false r n
+pub limit_held : {r t : Bool} → r ≡ t → r ≡ true → t ≡ true
+limit_held {r} e n = sym e ∙ n
 
 module _ (s : List ℕ) where
   to_good : good_order s ≡ true → GoodOrder s

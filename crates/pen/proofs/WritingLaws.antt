@@ -14,11 +14,11 @@ use Rattle.pen.specs.Writing.{Writes, Put, HasRoom}
 
 -- ── Whether there is room ──
 module _ {at n long : ℕ} {r : Bool} (is : HasRoom at n long r) where
-  pub no_room : not r ≡ true → long < at + n
-  no_room h = is.not_so (not-true _ h)
+  pub no_room : r ≡ false → long < at + n
+  no_room h = is.not_so h
 
-  pub room : not r ≡ false → at + n ≤ long
-  room h = is.yes (not-false _ h)
+  pub room : r ≡ true → at + n ≤ long
+  room h = is.yes h
 
 pub nothing_put : {out : List ℕ} {at : ℕ} {text : List ℕ} → length out < at + length text → Put out at text out at
 nothing_put h = record { fits = λ f. absurd (omega arith); short = λ s. (refl, refl) }

@@ -1,0 +1,15 @@
+-- `pen::put_turned` meets its contract: the invariant (WritingLaws, TurnLaws) is that there is room and the first i bytes are put; the measure is what is left. Assumes nothing.
+use Prim.Native.Nat.{◌+◌, ◌-◌, ◌≤◌}
+use mathlib.Core.List.{reverse}
+use native.Mathlib.Omega.{arith}
+use borrow.Author.Rules.{rules}
+use lib.ListN.{length, length-reverse}
+use Rattle.pen.proofs.WritingLaws.{no_room, room, nothing_put, all_put, Putting, begins, ends}
+use Rattle.pen.proofs.TurnLaws.{more_turned}
+use Rattle.pen.proofs.put_turned.Given as goal
+
+abbrev pub invariant-loop-i : goal.invariant-loop-i
+invariant-loop-i l = Putting l.initial.out l.at (reverse l.bytes) l.out l.i × (l.i ≤ length l.bytes) × (l.at + length l.bytes ≤ length l.initial.out)
+
+abbrev pub decreases-loop-i : goal.decreases-loop-i
+decreases-loop-i l = length l.bytes - l.i

@@ -1,0 +1,13 @@
+-- `pen::turn_from` meets its contract: the invariant (TurnLaws) is that what is outside lo and hi is turned; the measure is what is between them. Assumes nothing.
+use lib.Seq.{lt-length-set}
+use lib.ListN.{length, get_or}
+use native.Mathlib.Omega.{arith}
+use Prim.Native.Nat.{◌-◌, ◌≤◌}
+use Rattle.pen.proofs.TurnLaws.{Turning, turn_begins, turn_more, turn_ends, turn_none}
+use Rattle.pen.proofs.turn_from.Given as goal
+
+abbrev pub invariant-loop-lo : goal.invariant-loop-lo
+invariant-loop-lo l = Turning l.initial.out l.from l.out l.lo l.hi × (l.hi ≤ length l.initial.out)
+
+abbrev pub decreases-loop-lo : goal.decreases-loop-lo
+decreases-loop-lo l = l.hi - l.lo
