@@ -172,8 +172,8 @@ pub record Holds (w : Writer) (buf : List ℕ) (rs : List Region) (xs : List Par
   pub fits : (w.nodes ≡ 0 → w.reserved ≡ 0 → ⊥) → (final_size w ≤ 1048576) × (final_size w ≤ length buf)
   pub layout : final_size w ≤ length buf → Layout buf rs xs
 
-pub no_zero : (name : List ℕ) → length name ≤ string_end name 0 → NoZero name
-no_zero name h i lt e = first_before 0 name 0 i (omega arith) (omega arith) e
+pub no_zero_lem : (name : List ℕ) → length name ≤ string_end name 0 → NoZero name
+no_zero_lem name h i lt e = first_before 0 name 0 i (omega arith) (omega arith) e
 
 fresh_size : final_size fresh ≡ 72
 unfolding final_size

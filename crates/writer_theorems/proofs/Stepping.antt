@@ -27,7 +27,7 @@ use Rattle.writer_theorems.specs.Refusals.{begun, ended}
 use Rattle.writer_theorems.proofs.Snoc.{size_snoc, name_size_snoc, clean_snoc, entered_snoc, begun_append, ended_append}
 use Rattle.writer_theorems.proofs.Middle.{laid_length}
 use Rattle.writer_theorems.proofs.Turns.{run_root, run_begin, run_prop, run_end}
-use Rattle.writer_theorems.proofs.Holding.{Layout, layout_part, layout_entry, whole_long, Holds, holds_start, no_zero}
+use Rattle.writer_theorems.proofs.Holding.{Layout, layout_part, layout_entry, whole_long, Holds, holds_start, no_zero_lem}
 
 -- ── What a part in turn does to the writer's place ──
 -- limits that let a part pass
@@ -60,7 +60,7 @@ next_root w name t k =
       depth = omega arith;
       nodes = refl;
       rooted = λ e. omega arith;
-      clean = no_zero name t.clean;
+      clean = no_zero_lem name t.clean;
       larger = omega arith;
       walk = λ lv nd l p ts. run_root lv nd p name ts w.depth w.nodes w.props k.1 k.0 k.2;
     }
@@ -77,7 +77,7 @@ next_begin w name t k =
       depth = omega arith;
       nodes = refl;
       rooted = λ e. omega arith;
-      clean = no_zero name t.clean;
+      clean = no_zero_lem name t.clean;
       larger = omega arith;
       walk = λ lv nd l p ts. run_begin lv nd p name ts w.depth w.nodes w.props k.1 l.0 l.1;
     }
@@ -94,7 +94,7 @@ next_property w name value t n =
       depth = refl;
       nodes = omega arith;
       rooted = n;
-      clean = no_zero name t.clean;
+      clean = no_zero_lem name t.clean;
       larger = omega arith;
       walk = λ lv nd l p ts. run_prop lv nd (record { at = p; name = name; value = value }) ts w.depth w.nodes w.props t.turn;
     }

@@ -28,7 +28,7 @@ use Rattle.writer.proofs.Accepting.{begin_turn, property_turn, end_turn, reserve
 use Rattle.writer_theorems.specs.History.{Account, with_call}
 use Rattle.writer_theorems.specs.Refusals.{TreeOf, OutOfTurn, HasZero, Wrong, finished, out_of_turn, zero_in_name, zero_in_property, named_root, nothing_reserved, begun, ended, closing, closed}
 use Rattle.writer_theorems.proofs.Turns.{run_end, run_fin}
-use Rattle.writer_theorems.proofs.Holding.{Holds, no_zero}
+use Rattle.writer_theorems.proofs.Holding.{Holds, no_zero_lem}
 use Rattle.writer_theorems.proofs.Stepping.{Passes, Next, next, within_passes, raised_passes, walks, open_after}
 use Rattle.writer_theorems.proofs.Finishing.{whole_tree}
 

@@ -17,7 +17,7 @@ use Rattle.writer.proofs.Accepting.{begin_turn, property_turn, end_turn, reserve
 use Rattle.grammar.proofs.TurnLaws.{Raised}
 use Rattle.writer_theorems.specs.History.{Account}
 use Rattle.writer_theorems.specs.Refusals.{TreeOf, HasZero, Wrong, finished, out_of_turn, zero_in_name, zero_in_property, named_root, nothing_reserved, closing}
-use Rattle.writer_theorems.proofs.Holding.{Holds, no_zero}
+use Rattle.writer_theorems.proofs.Holding.{Holds, no_zero_lem}
 use Rattle.writer_theorems.proofs.Stepping.{raised_passes}
 use Rattle.writer_theorems.proofs.Finishing.{whole_tree}
 use Rattle.writer_theorems.proofs.Turning.{part_tree, no_part, no_end}
@@ -143,8 +143,8 @@ module _ (w : Writer) (buf : List ℕ) (a : Account) (h : Holds w buf a.entries 
   right_of f finish t (out_of_turn o) =
       let r = whole_tree w buf a.entries a.parts h (finish_turn w t) in
       o (record { props = r.0; kids = r.1; parts = r.2 })
-  right_of f (write (begins name)) t (zero_in_name z) = no_zero name (begin_turn w name t).clean z.0 z.1 z.2
-  right_of f (write (property name value)) t (zero_in_property z) = no_zero name (property_turn w name value t).clean z.0 z.1 z.2
+  right_of f (write (begins name)) t (zero_in_name z) = no_zero_lem name (begin_turn w name t).clean z.0 z.1 z.2
+  right_of f (write (property name value)) t (zero_in_property z) = no_zero_lem name (property_turn w name value t).clean z.0 z.1 z.2
   right_of f (write (begins name)) t (named_root e n) =
       ⊎_elim (λ k. n (nil_of name k.2)) (λ k. k.0 (h.begun_none e)) (begin_turn w name t).which
   right_of f (reserve p z) t nothing_reserved = (reserve_turn w 0 0 t).some refl refl

@@ -1,0 +1,20 @@
+-- `writer::judge_reservation` meets its contract: one law for each return (Refusals). Assumes nothing.
+use Rattle.writer.proofs.Refusals.{reserve_done, reserve_late, reserve_address, reserve_size, reserve_none}
+use mathlib.Core.Path.{◌∙◌}
+use borrow.Author.Rules.{rules}
+use Rattle.writer.proofs.judge_reservation.Goals as goal
+
+pub returns-then-w : goal.returns-then-w
+returns-then-w c = reserve_done c.args.w c.args.address c.args.size c.args.room c.if-w.true
+
+pub returns-then-w-ne0 : goal.returns-then-w-ne0
+returns-then-w-ne0 c = reserve_late c.args.w c.args.address c.args.size c.args.room c.if-w.false c.if-w-ne0.true
+
+pub returns-then-address-ne0 : goal.returns-then-address-ne0
+returns-then-address-ne0 c = c.room_for.ensures ∙ reserve_address c.args.w c.args.address c.args.size c.args.room c.if-w.false c.if-w-ne0.false c.if-address-ne0.true
+
+pub returns-then-size-ne0 : goal.returns-then-size-ne0
+returns-then-size-ne0 c = c.room_for-then-size-ne0.ensures ∙ reserve_size c.args.w c.args.address c.args.size c.args.room c.if-w.false c.if-w-ne0.false c.if-address-ne0.false c.if-size-ne0.true
+
+pub returns : goal.returns
+returns c = reserve_none c.args.w c.args.address c.args.size c.args.room c.if-w.false c.if-w-ne0.false c.if-address-ne0.false c.if-size-ne0.false
