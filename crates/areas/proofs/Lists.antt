@@ -24,8 +24,9 @@ module _ {A : Type 0} (P : A → Type 0) where
   every_append (a ∷ l) m s t = (s.0, every_append l m s.1 t)
 
 pub every_member : {A : Type 0} (P : A → Type 0) (l : List A) → Every P l → (a : A) → Memᴰ a l → P a
-every_member P _ e a (Memᴰ.head q) = rw q e.0
-every_member P _ e a (Memᴰ.tail m) = every_member P _ e.1 a m
+every_member P [] e a m = elim m [ ]
+every_member P (b ∷ l) e a (Memᴰ.head q) = rw q e.0
+every_member P (b ∷ l) e a (Memᴰ.tail m) = every_member P l e.1 a m
 
 pub every_map : {A B : Type 0} (P : B → Type 0) (f : A → B) (l : List A) → Every (λ a. P (f a)) l → Every P (map f l)
 every_map P f [] h = tt
@@ -42,6 +43,7 @@ module _ (x : ℕ) where
   listed_append (r ∷ l) m (inr i) = ⊎_elim (λ j. inl (inr j)) (λ j. inr j) (listed_append l m i)
 
   pub listed_left : (l m : List Interval) → Listed x l → Listed x (l ++ m)
+  listed_left [] m i = elim i [ ]
   listed_left (r ∷ l) m (inl i) = inl i
   listed_left (r ∷ l) m (inr i) = inr (listed_left l m i)
 
