@@ -1,6 +1,6 @@
 -- The places of a written tree's nodes ascend strictly in document order. So the number of a node is how many nodes begin before it, the
 -- root's is 0 and its first child's is 1, and no two nodes share a place. Assumes nothing.
-use mathlib.Core.Path.{◌≡◌, refl, sym, ◌∙◌}
+use mathlib.Core.Path.{◌≡◌, refl, sym, subst, ◌∙◌}
 use Prim.Native.Nat.{ℕ, suc, ◌+◌, ◌≤◌, ◌<◌}
 use native.Mathlib.Omega.{arith}
 use mathlib.Core.Logic.{◌⊎◌, inl, inr, ⊎_elim}
@@ -29,6 +29,7 @@ ascending_from {o = o} h (then {q = q} k a) = let m : o ≤ q = omega arith in t
 
 -- each of them is from the start on
 one_from : {p q : ℕ} {l : List ℕ} → Ascending p l → OneOf q l → p ≤ q
+one_from {q = q} (last {p = p}) o = elim o [ ]
 one_from (then k a) this = k
 one_from (then k a) (later o) = let h = one_from a o in omega arith
 
@@ -41,6 +42,7 @@ count_none t h (then {q = q} k a) = let x : t ≤ q = omega arith in rw (le-ltb 
 -- the number of one of them is how many are before it
 number_count : {t p : ℕ} {l : List ℕ} → Ascending p l → OneOf t l → (k : ℕ) → number_in l t k ≡ k + count_before t l
 unfolding number_in count_before
+number_count {t = t} (last {p = p}) o m = elim o [ ]
 number_count {t = t} (then k a) this m = rw (eq-eqb t t refl, le-ltb t t (omega arith), count_none t (omega arith) a) (omega arith)
 number_count {t = t} (then {q = q} k a) (later o) m =
     let h = one_from a o in
@@ -127,18 +129,22 @@ apart (below {rs = rs} x) l (then k a) o = apart x (order rs l) a (one_past rs o
 apart (after {ks = ks} {rs = rs} x) l (then k a) o = apart x l (ascending_past ks (order rs l) a).1 o
 
 -- where places ascend, two nodes at one place are the same node
+same_place : {q r : ℕ} {nm om : List ℕ} {ps os : List Property} {kids ls rest rs t : Nodes} → Among q nm ps kids rest t → Among r om os ls rs t
+    → (l : List ℕ) {p : ℕ} → Ascending p (order t l) → q ≡ r → SameNode nm om ps os kids ls rest rs
+unfolding order
+same_place first first l a e = record { name = refl; properties = refl; kids = refl; rest = refl }
+same_place first (below {rs = rs} y) l (then k a) e = let h = one_from a (one_in y (order rs l)) in let x : ⊥ = omega arith in absurd x
+same_place first (after {ks = ks} y) l (then k a) e = let h = one_from a (one_past ks (one_in y l)) in let x : ⊥ = omega arith in absurd x
+same_place (below {rs = rs} x) first l (then k a) e = let h = one_from a (one_in x (order rs l)) in let y : ⊥ = omega arith in absurd y
+same_place (below {rs = rs} x) (below y) l (then k a) e = same_place x y (order rs l) a e
+same_place (below {rs = rs} x) (after y) l (then k a) e = absurd (apart x (order rs l) a (subst (λ z. OneOf z (order rs l)) (sym e) (one_in y l)))
+same_place (after {ks = ks} x) first l (then k a) e = let h = one_from a (one_past ks (one_in x l)) in let y : ⊥ = omega arith in absurd y
+same_place (after {rs = rs} x) (below y) l (then k a) e = absurd (apart y (order rs l) a (subst (λ z. OneOf z (order rs l)) e (one_in x l)))
+same_place (after {ks = ks} {rs = rs} x) (after y) l (then k a) e = same_place x y l (ascending_past ks (order rs l) a).1 e
+
 same_node : {q : ℕ} {nm om : List ℕ} {ps os : List Property} {kids ls rest rs t : Nodes} → Among q nm ps kids rest t → Among q om os ls rs t
     → (l : List ℕ) {p : ℕ} → Ascending p (order t l) → SameNode nm om ps os kids ls rest rs
-unfolding order
-same_node first first l a = record { name = refl; properties = refl; kids = refl; rest = refl }
-same_node first (below {rs = rs} y) l (then k a) = let h = one_from a (one_in y (order rs l)) in let x : ⊥ = omega arith in absurd x
-same_node first (after {ks = ks} y) l (then k a) = let h = one_from a (one_past ks (one_in y l)) in let x : ⊥ = omega arith in absurd x
-same_node (below {rs = rs} x) first l (then k a) = let h = one_from a (one_in x (order rs l)) in let y : ⊥ = omega arith in absurd y
-same_node (below {rs = rs} x) (below y) l (then k a) = same_node x y (order rs l) a
-same_node (below {rs = rs} x) (after y) l (then k a) = absurd (apart x (order rs l) a (one_in y l))
-same_node (after {ks = ks} x) first l (then k a) = let h = one_from a (one_past ks (one_in x l)) in let y : ⊥ = omega arith in absurd y
-same_node (after {rs = rs} x) (below y) l (then k a) = absurd (apart y (order rs l) a (one_in x l))
-same_node (after {ks = ks} {rs = rs} x) (after y) l (then k a) = same_node x y l (ascending_past ks (order rs l) a).1
+same_node x y l a = same_place x y l a refl
 
 -- the number of the first below the first is 1
 second_number : (p : ℕ) (ps : List Property) (kids : Nodes) {q : ℕ} → Ascending 0 (order (node p [] ps kids none) []) → head_of kids ≡ At q

@@ -141,8 +141,9 @@ module _ (free : Free) {q : ℕ} {nm : List ℕ} where
       }
 
   -- behind each node of a veiled tree stands its like
-  behind : {vs : List Property} {vk vr : Nodes} (u : Nodes) → Among q nm vs vk vr (veil_k free u) → Twin free q nm vs vk vr u
+  behind : (u : Nodes) {vs : List Property} {vk vr : Nodes} → Among q nm vs vk vr (veil_k free u) → Twin free q nm vs vk vr u
   unfolding veil_k
+  behind none a = elim a [ ]
   behind (node r om os ls rs) first =
       record { properties = os; kids = ls; rest = rs; among = first; same_properties = refl; same_kids = refl; same_rest = refl }
   behind (node r om os ls rs) (below a) = let i = behind ls a in lifted i (below i.among)

@@ -1,15 +1,13 @@
--- The exact dynamic case, from answers in hand: the number in `size`, and rows 0 and 1 of `alloc_ranges`. A case that is not the one asked
--- for is known by its place among the cases, as `let .. else` tells it. Assumes nothing.
+-- The exact dynamic case, from answers in hand: the number in `size`, and rows 0 and 1 of `alloc_ranges`. Assumes nothing.
 use mathlib.Core.Path.{◌≡◌, refl, sym, ◌∙◌, ap}
 use Prim.Native.Nat.{ℕ, ◌+◌, ◌*◌, ◌-◌, ◌^◌, ◌≤◌, ◌<◌}
 use native.Mathlib.Omega.{arith}
 use mathlib.Core.List.{List, [], ◌∷◌}
 use mathlib.Core.Bool.{Bool, true, false, cond, ◌&&◌}
-use mathlib.Core.Logic.{◌⊎◌, ⊎_elim}
+use mathlib.Core.Logic.{⊎_elim}
 use lib.ListN.{length}
 use lib.Dec.{eqb, leb, ltb}
 use borrow.Author.Tests.{eq-eqb, ne_eqb, eqb-true, eqb-false, lt-ltb, le-leb, lt-leb}
-use denote.Enum.Declared
 use Rattle.words.proofs.BytesLaws.{never, double_past}
 use Rattle.cells.specs.declared.CellCount.{CellCount}
 use Rattle.cells.specs.declared.CellCount.TheVariants.{Stated, Absent, Faulty}
@@ -18,8 +16,6 @@ use Rattle.cells.specs.declared.RegRow.{RegRow}
 use Rattle.cells.specs.declared.RegRow.TheVariants.{PastReg, RegAt}
 use Rattle.cells.specs.Count.{cell_bytes}
 use Rattle.cells.specs.Rows.{Table, unreadable, rows, number_at, reg_of, reg_row}
-use Rattle.cells.specs.contracts.CellCount as count
-use Rattle.cells.specs.contracts.RegRow as row
 use Rattle.reserved.specs.declared.Number.{Number}
 use Rattle.reserved.specs.declared.Number.TheVariants.{Is, NoNumber}
 use Rattle.reserved.specs.declared.Exact.{Exact}
@@ -43,19 +39,19 @@ module _ (n : ℕ) where
 
   -- x is row 0, and no region
   pub no_first : (t : Table Region) (x : RegRow) → x ≡ reg_row t 0
-      → (Declared.tag_of row.the_type x ≡ 0) ⊎ (Declared.tag_of row.the_type x ≡ 1) → NotExact ≡ exact_by n t
+      → ((r : Region) → x ≡ RegAt r → ⊥) → NotExact ≡ exact_by n t
   unfolding exact_by
   no_first unreadable x e k = refl
   no_first (rows []) x e k = refl
-  no_first (rows (r ∷ l)) x e k = absurd (⊎_elim (λ z. omega arith) (λ z. omega arith) (rw e at k))
+  no_first (rows (r ∷ l)) x e k = absurd (k r e)
 
   -- x is row 1, and not past the last
   pub more_rows : (t : Table Region) (x : RegRow) → x ≡ reg_row t 1
-      → (Declared.tag_of row.the_type x ≡ 0) ⊎ (Declared.tag_of row.the_type x ≡ 2) → NotExact ≡ exact_by n t
+      → (x ≡ PastReg → ⊥) → NotExact ≡ exact_by n t
   unfolding exact_by
   more_rows unreadable x e k = refl
   more_rows (rows []) x e k = refl
-  more_rows (rows (r ∷ [])) x e k = absurd (⊎_elim (λ z. omega arith) (λ z. omega arith) (rw e at k))
+  more_rows (rows (r ∷ [])) x e k = absurd (k e)
   more_rows (rows (r ∷ q ∷ l)) x e k = refl
 
 -- row 0 is a region and row 1 is past the last
@@ -88,9 +84,9 @@ module _ (n : ℕ) (t : Table Region) (r : Region) (x y : RegRow) (lone : Lone t
 -- ── The count and `size` ──
 -- d is not stated
 pub unstated : (a d : CellCount) (size ranges : List ℕ)
-    → (Declared.tag_of count.the_type d ≡ 1) ⊎ (Declared.tag_of count.the_type d ≡ 2) → NotExact ≡ exact_of a d size ranges
+    → ((c : ℕ) → d ≡ Stated c → ⊥) → NotExact ≡ exact_of a d size ranges
 unfolding exact_of
-unstated a (Stated c) size ranges k = absurd (⊎_elim (λ z. omega arith) (λ z. omega arith) k)
+unstated a (Stated c) size ranges k = absurd (k c refl)
 unstated a Absent size ranges k = refl
 unstated a Faulty size ranges k = refl
 

@@ -1,0 +1,59 @@
+use mathlib.Core.Path.{sym, ◌∙◌}
+use native.Mathlib.Omega.{arith}
+use Rattle.nodes.proofs.PathLaws.{path_rootless, path_empty, path_relative, path_root, path_steps, step_empty, step_none, step_last, step_more, goes_from, goes_on}
+use Rattle.nodes.proofs.path_offset.Goals as goal
+
+pub returns-in_default : goal.returns-in_default
+returns-in_default c = path_rootless _ _ _ (sym c.kid_from.ensures ∙ c.in_default.is)
+
+pub returns-then-path-eq0 : goal.returns-then-path-eq0
+returns-then-path-eq0 c = path_empty _ _ _ c.if-path-eq0.true
+
+pub returns-then-path-ne47 : goal.returns-then-path-ne47
+returns-then-path-ne47 c = path_relative _ _ _ c.if-path-eq0.false c.if-path-ne47.true
+
+pub returns-then-path-eq1 : goal.returns-then-path-eq1
+returns-then-path-eq1 c =
+    let o = c in
+    path_root _ _ _ o.if-path-eq0.false c.if-path-ne47.false _ (sym o.kid_from.ensures ∙ o.in-At.is) c.if-path-eq1.true
+
+pub loop-i-init : goal.loop-i-init
+loop-i-init c =
+    let o = c in
+    goes_from _ _ _ _ o.if-path-eq0.false
+    (path_steps _ _ _ o.if-path-eq0.false c.if-path-ne47.false _ (sym o.kid_from.ensures ∙ o.in-At.is) c.if-path-eq1.false)
+
+pub returns-then-end-i : goal.returns-then-end-i
+returns-then-end-i c =
+    let k = c in
+    let l = k.loop-i in
+    sym (l.invariant.same ∙ step_empty _ _ _ _ _ _ _ k.byte_from-end.ensures.is c.if-end-i.true)
+
+pub returns-in_default-subnode : goal.returns-in_default-subnode
+returns-in_default-subnode c =
+    let t = c in
+    let k = t in
+    let l = k.loop-i in
+    sym
+    (l.invariant.same ∙
+    step_none _ _ _ _ _ _ _ k.byte_from-end.ensures.is t.if-end-i.false (k.byte_from-end.ensures.upto l.invariant.within) _ t.part.ensures _ t.subnode.ensures c.in_default-subnode.is)
+
+pub returns-then-path-end : goal.returns-then-path-end
+returns-then-path-end c =
+    let t = c in
+    let k = t in
+    let l = k.loop-i in
+    sym
+    (l.invariant.same ∙
+    step_last _ _ _ _ _ _ _ k.byte_from-end.ensures.is t.if-end-i.false (k.byte_from-end.ensures.upto l.invariant.within) _ t.part.ensures _ t.subnode.ensures _ c.in-At-subnode.is c.if-path-end.true)
+
+pub loop-i-smaller : goal.loop-i-smaller
+loop-i-smaller c = let h = c.if-end-i.false in omega arith
+
+pub loop-i-preserved : goal.loop-i-preserved
+loop-i-preserved c =
+    let t = c in
+    let k = t in
+    let l = k.loop-i in
+    goes_on _ _ l.invariant t.if-end-i.false c.if-path-end.false
+    (step_more _ _ _ _ _ _ _ k.byte_from-end.ensures.is t.if-end-i.false (k.byte_from-end.ensures.upto l.invariant.within) _ t.part.ensures _ t.subnode.ensures _ c.in-At-subnode.is c.if-path-end.false)

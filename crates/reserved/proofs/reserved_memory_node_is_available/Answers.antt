@@ -1,0 +1,12 @@
+-- `reserved_memory_node_is_available` meets its contract: `status` is what stands at its place, or it is absent. Assumes nothing.
+use Rattle.reserved.proofs.ChildrenLaws.{status_here, status_missing}
+use Rattle.reserved.proofs.reserved_memory_node_is_available.Goals as goal
+
+pub returns-in-Here : goal.returns-in-Here
+returns-in-Here c =
+    let p = c in
+    let k = p in
+    status_here _ _ _ _ k.getprop.ensures _ _ _ _ k.in-Here.is p.part.ensures c.same.ensures
+
+pub returns-in-Missing : goal.returns-in-Missing
+returns-in-Missing c = status_missing _ _ _ _ c.getprop.ensures c.in-Missing.is

@@ -1,0 +1,33 @@
+-- `translation::begin_at` meets its contract: the given region, or the first row of the `reg` that the node at hand has, by
+-- StepLaws.begins_row and begins-not. Assumes nothing.
+use Rattle.translation.proofs.StepLaws.{begins_row, begins_not}
+use Rattle.translation.proofs.begin_at.Goals as goal
+
+pub returns-in-Given : goal.returns-in-Given
+returns-in-Given c = rw c.in-Given.is
+
+pub returns-in-RegAt : goal.returns-in-RegAt
+returns-in-RegAt c =
+    let r = c in
+    let p = r in
+    let g = p in
+    begins_row _ _ _ _ _ _ _ g.in-FirstReg.is _ g.getprop.ensures _ _ _ _ _ g.in-Here.is p.part.ensures r.reg_row.ensures c.in-RegAt.is
+
+pub returns-in-PastReg : goal.returns-in-PastReg
+returns-in-PastReg c =
+    let r = c in
+    let p = r in
+    let g = p in
+    begins_row _ _ _ _ _ _ _ g.in-FirstReg.is _ g.getprop.ensures _ _ _ _ _ g.in-Here.is p.part.ensures r.reg_row.ensures c.in-PastReg.is
+
+pub returns-in-NoReg : goal.returns-in-NoReg
+returns-in-NoReg c =
+    let r = c in
+    let p = r in
+    let g = p in
+    begins_row _ _ _ _ _ _ _ g.in-FirstReg.is _ g.getprop.ensures _ _ _ _ _ g.in-Here.is p.part.ensures r.reg_row.ensures c.in-NoReg.is
+
+pub returns-in-Missing : goal.returns-in-Missing
+returns-in-Missing c =
+    let g = c in
+    begins_not _ _ _ _ _ _ _ g.in-FirstReg.is _ g.getprop.ensures c.in-Missing.is

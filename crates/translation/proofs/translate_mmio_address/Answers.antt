@@ -1,0 +1,17 @@
+-- `translation::translate_mmio_address` meets its contract: the search from the root's children on, by StepLaws.from_root, which has it from
+-- SearchLaws.search-is. Assumes nothing.
+use Rattle.translation.proofs.StepLaws.{no_root, root_begins, from_root}
+use Rattle.translation.proofs.translate_mmio_address.Goals as goal
+
+pub returns-in_default : goal.returns-in_default
+returns-in_default c = no_root _ _ _ _ _ c.path_offset.ensures c.in_default.is
+
+pub translate_from_children-requires : goal.translate_from_children-requires
+translate_from_children-requires c = root_begins _ c.first_subnode-first.ensures
+
+pub returns : goal.returns
+returns c =
+    let z = c in
+    let f = z in
+    let g = f in
+    from_root _ _ _ _ _ g.path_offset.ensures _ g.in-At.is _ f.first_subnode-first.ensures _ _ _ _ z.address_cells-address.ensures z.size_cells-size.ensures c.translate_from_children.ensures c.finish.ensures
