@@ -4,21 +4,19 @@
 
 ghost use Rattle.memory.specs.Made.{Made};
 
-use libc::STDOUT_FILENO;
 use memory::{MemoryMap, Registered};
+use std::io;
 
-fn print_held(map: MemoryMap) {
-    io::print_decimal(STDOUT_FILENO, map.size as u64);
-    io::write_all(STDOUT_FILENO, b" held\n");
+fn print_held<P: Print>(out: &P, map: MemoryMap) -> io::Result<()> {
+    let held = map.size;
+    println!(out; "{held} held")
 }
 
 // What a registration answers, and how many entries are held after it.
-fn print_answer(r: Registered) {
-    let answer = r.answer;
-    io::write_all(STDOUT_FILENO, b"answer ");
-    io::print_decimal(STDOUT_FILENO, answer.number() as u64);
-    io::write_all(STDOUT_FILENO, b", ");
-    print_held(r.map);
+fn print_answer<P: Print>(out: &P, r: Registered) -> io::Result<()> {
+    let answer = r.answer.number();
+    print!(out; "answer {answer}, ")?;
+    print_held(out, r.map)
 }
 
 // Every second page from 0 on, each Free, until 512 are asked for.
@@ -35,13 +33,13 @@ fn filled() -> MemoryMap
     map
 }
 
-fn main() {
+fn main(rt: HostRuntime) -> io::Result<()> {
     let map = filled();
-    print_held(map);
+    print_held(&rt, map)?;
     // isolated
-    print_answer(map.register(0x4000_0000, 0x1000, 1));
+    print_answer(&rt, map.register(0x4000_0000, 0x1000, 1))?;
     // touching, of another kind
-    print_answer(map.register(0x1000, 0x1000, 3));
+    print_answer(&rt, map.register(0x1000, 0x1000, 3))?;
     // bridging
-    print_answer(map.register(0x1000, 0x1000, 1));
+    print_answer(&rt, map.register(0x1000, 0x1000, 1))
 }

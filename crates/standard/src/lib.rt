@@ -1,10 +1,16 @@
 // Standard input and standard output for programs. A read or a write that fails is told on standard error, with what failed and why.
-// No contract can say which bytes are read or written: it says how many of a space hold what was read.
+// No contract can say which bytes the system gives or takes: it says how many of a space hold what was read, and which bytes these are of
+// a reader whose bytes are known, as of one over memory.
+//
+// A program's `main` lends its runtime's streams; a function that C calls has them as parameters, which take no bytes.
 #![tactic(auto)]
 
 ghost use Rattle.std.specs.Prelude.{◌≤◌, ◌≡◌};
-ghost use Rattle.standard.specs.Input.{Holds};
-ghost use Rattle.standard.specs.Status.{status_of};
+ghost use Rattle.standard.specs.Input.{Holds, Reads, ReadsAll};
+ghost use Rattle.standard.specs.Status.{status_of, Writes};
+
+use std::fmt::InlineText;
+use std::io::{Error, Read, Write};
 
 // What reading gave: so many bytes at the start of the space; or a read failed, and was told.
 #[derive(Drop)]
@@ -36,25 +42,39 @@ impl Ending {
     }
 }
 
+// Tells on standard error what failed and why, in the system's words and without their number.
+fn tell<E: Eprint>(told: &E, what: &str, error: Error) {
+    let text = InlineText::<256>::of(error);
+    let words = text.as_str();
+    let why = match words.split_once(" (os error ") {
+        Some((why, _)) => why,
+        None => words,
+    };
+    let _ = told.eprintln(format_args!("{what}: {why}"));
+}
+
 // One read. It holds nothing where the input has ended.
-fn read_some(space: &mut [u8]) -> Input
-    ensures { Holds space.new result }
+fn read_some<R: Read, E: Eprint>(input: &mut R, told: &E, space: &mut [u8]) -> Input
+    ensures held { Holds space.new result }
+    ensures bytes { Reads (R.remaining input.old) (R.remaining input.new) space.new result }
 {
-    let got = libc::read(libc::STDIN_FILENO, space);
-    if got < 0 {
-        os::fail(b"standard input");
-        return Input::Failed;
+    match input.read(space) {
+        Ok(got) => Input::Held(got),
+        Err(error) => {
+            tell(told, "standard input", error);
+            Input::Failed
+        }
     }
-    Input::Held(io::count(got, space))
 }
 
 // Reads standard input until it ends or the space is full, in however many pieces it comes.
-pub fn read_all(space: &mut [u8]) -> Input
-    ensures { Holds space.new result }
+pub fn read_all<R: Read, E: Eprint>(input: &mut R, told: &E, space: &mut [u8]) -> Input
+    ensures held { Holds space.new result }
+    ensures bytes { ReadsAll (R.remaining input.old) (R.remaining input.new) space.new result }
 {
     let mut have: usize = 0;
     while have < space.len() {
-        let Input::Held(more) = read_some(&mut space[have..]) else {
+        let Input::Held(more) = read_some(input, told, &mut space[have..]) else {
             return Input::Failed;
         };
         if more == 0 {
@@ -66,10 +86,14 @@ pub fn read_all(space: &mut [u8]) -> Input
 }
 
 // Writes all of a text to standard output.
-pub fn write_all(text: &[u8]) -> Ending {
-    if io::write_all(libc::STDOUT_FILENO, text) {
-        return Ending::Written;
+pub fn write_all<W: Write, E: Eprint>(output: &mut W, told: &E, text: &[u8]) -> Ending
+    ensures { Writes (W.contents output.old) (W.contents output.new) text.now result }
+{
+    match output.write_all(text) {
+        Ok(()) => Ending::Written,
+        Err(error) => {
+            tell(told, "standard output", error);
+            Ending::Unwritten
+        }
     }
-    os::fail(b"standard output");
-    Ending::Unwritten
 }

@@ -26,7 +26,7 @@ module _ (l : List ℕ) (i a b c : ℕ) where
   pub second_other : (y : ℕ) → NumberAt l (i + 8) y → (y ≡ b → ⊥) → Tells false (Three l i a b c)
   second_other y p other = denied (λ t. other (one_number l (i + 8) y b p t.1))
 
-  pub third-tells :
+  pub third_tells :
       (x y z : ℕ) → NumberAt l i x → x ≡ a → NumberAt l (i + 8) y → y ≡ b → NumberAt l (i + 16) z → Tells (eqb z c) (Three l i a b c)
-  third-tells x y z p e q f s =
+  third_tells x y z p e q f s =
       (λ t. (rw e at p, rw f at q, rw (eqb-true z c t) at s), λ t. eq-eqb z c (one_number l (i + 16) z c s t.2))

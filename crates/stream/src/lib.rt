@@ -1,12 +1,13 @@
 // A stream of cases on standard input, each with the answers of another program: the bytes of it that are held, the
 // numbers in them, and the tally of what differs. Each program lends a space for the bytes that has room for its largest
-// case. No contract can say what is read or written, so `refill` and `report` have none.
+// case. No contract can say what the system gives or takes, so `refill` and `report` have none.
 #![tactic(auto)]
 
 ghost use Rattle.std.specs.Prelude.{◌≡◌, ◌+◌, ◌*◌, ◌<◌};
 ghost use Rattle.stream.specs.Cases.{NumberAt, Three, Tells, Ahead, none, and_case};
 
 use standard::Input;
+use std::io::{Read, Result};
 
 // How many cases there were, how many of them differ, and the first that does, counted from 0, with its part. `cut` says
 // that the stream ended, or made no sense, in the midst of a case.
@@ -114,11 +115,11 @@ fn shift(space: &mut [u8], at: usize, have: usize) -> usize {
 
 // Fills the space behind its first `have` bytes from standard input, and answers how many there are then. A read that fails is told, and
 // is then the end of the stream.
-fn fill(space: &mut [u8], have: usize) -> usize {
+fn fill<R: Read, E: Eprint>(input: &mut R, told: &E, space: &mut [u8], have: usize) -> usize {
     if space.len() <= have {
         return have;
     }
-    let Input::Held(more) = standard::read_all(&mut space[have..]) else {
+    let Input::Held(more) = standard::read_all(input, told, &mut space[have..]) else {
         return have;
     };
     have + more
@@ -126,9 +127,15 @@ fn fill(space: &mut [u8], have: usize) -> usize {
 
 // Reads on: the bytes from `at` up to `have` go to the front, and behind them come as many as there are and have room.
 // Answers how many are held then.
-pub fn refill(space: &mut [u8], at: usize, have: usize) -> usize {
+pub fn refill<R: Read, E: Eprint>(
+    input: &mut R,
+    told: &E,
+    space: &mut [u8],
+    at: usize,
+    have: usize,
+) -> usize {
     let kept = shift(space, at, have);
-    fill(space, kept)
+    fill(input, told, space, kept)
 }
 
 // Before the first case.
@@ -163,24 +170,24 @@ pub fn counted(tally: Tally, part: u64) -> Tally
     t
 }
 
-fn print(label: &[u8], n: u64) {
-    io::write_all(libc::STDOUT_FILENO, label);
-    io::print_decimal(libc::STDOUT_FILENO, n);
-    io::write_all(libc::STDOUT_FILENO, b"\n");
+fn print<P: Print>(out: &P, label: &[u8], n: u64) -> Result<()> {
+    out.write_all(label)?;
+    out.println(n)
 }
 
-// Writes a tally to standard output. `name` is what one case is called.
-pub fn report(tally: Tally, name: &[u8]) {
+// Writes a tally to standard output. `name` is what one case is called. It ends at the first write that fails.
+pub fn report<P: Print>(out: &P, tally: Tally, name: &[u8]) -> Result<()> {
     if tally.cut {
-        io::write_all(libc::STDOUT_FILENO, b"cut off\n");
+        out.write_all(b"cut off\n")?;
     }
-    io::write_all(libc::STDOUT_FILENO, name);
-    print(b"s ", tally.cases);
-    print(b"differ ", tally.differ);
+    out.write_all(name)?;
+    print(out, b"s ", tally.cases)?;
+    print(out, b"differ ", tally.differ)?;
     if tally.differ != 0 {
-        io::write_all(libc::STDOUT_FILENO, b"first differs: ");
-        io::write_all(libc::STDOUT_FILENO, name);
-        print(b" ", tally.case);
-        print(b"in part ", tally.part);
+        out.write_all(b"first differs: ")?;
+        out.write_all(name)?;
+        print(out, b" ", tally.case)?;
+        print(out, b"in part ", tally.part)?;
     }
+    Ok(())
 }

@@ -6,31 +6,29 @@ ghost use Rattle.std.specs.Prelude.{◌≡◌, ◌≤◌, length};
 ghost use Rattle.memory.specs.Made.{Made};
 
 use areas::{Built, Limit};
-use libc::{STDIN_FILENO, STDOUT_FILENO};
 use memory::{Answer, MemoryMap, Registered};
+use standard::Input;
+use std::io;
+use std::process::ExitCode;
 
-fn print_refusal(number: u8) {
-    io::write_all(STDOUT_FILENO, b"refused ");
-    io::print_decimal(STDOUT_FILENO, number as u64);
-    io::write_all(STDOUT_FILENO, b"\n");
+fn print_refusal<P: Print>(out: &P, number: u8) -> io::Result<()> {
+    println!(out; "refused {number}")
 }
 
 // One line for each of the first n areas.
-fn print_areas(slots: &[u64], n: usize) {
-    io::write_all(STDOUT_FILENO, b"areas ");
-    io::print_decimal(STDOUT_FILENO, n as u64);
-    io::write_all(STDOUT_FILENO, b"\n");
+fn print_areas<P: Print>(out: &P, slots: &[u64], n: usize) -> io::Result<()> {
+    println!(out; "areas {n}")?;
     let mut i: usize = 0;
     while i + 1 < slots.len() {
         if n <= i / 2 {
-            return;
+            return Ok(());
         }
-        io::print_hex(STDOUT_FILENO, slots[i], 16);
-        io::write_all(STDOUT_FILENO, b" ");
-        io::print_hex(STDOUT_FILENO, slots[i + 1], 16);
-        io::write_all(STDOUT_FILENO, b"\n");
+        let base = slots[i];
+        let size = slots[i + 1];
+        println!(out; "{base:016x} {size:016x}")?;
         i += 2;
     }
+    Ok(())
 }
 
 // The list, registered in an empty map.
@@ -40,23 +38,30 @@ fn registered(list: &[u8]) -> Registered
     bootloader::register_bootloader_areas(MemoryMap::empty(), list)
 }
 
-fn main() {
-    let mut bytes = io::large_buffer();
-    let n = io::read_full(STDIN_FILENO, &mut bytes);
-    if 65536 <= n {
-        io::write_all(STDOUT_FILENO, b"list too long\n");
-        return;
-    }
-    let r = registered(&bytes[..n]);
+// What becomes of a list: its areas, or the number of the refusal.
+fn print_list<P: Print>(out: &P, list: &[u8]) -> io::Result<()> {
+    let r = registered(list);
     let answer = r.answer;
     let Answer::Done = answer else {
-        print_refusal(answer.number());
-        return;
+        return print_refusal(out, answer.number());
     };
     let mut slots = [0u64; 1024];
     let built = areas::build(r.map, Limit::Missing, Limit::Missing, &mut slots);
     match built {
-        Built::Done(count) => print_areas(&slots, count),
-        Built::TooManyAreas => print_refusal(built.number()),
+        Built::Done(count) => print_areas(out, &slots, count),
+        Built::TooManyAreas => print_refusal(out, built.number()),
     }
+}
+
+fn main(rt: HostRuntime) -> io::Result<ExitCode> {
+    let mut bytes = [0u8; 65536];
+    let Input::Held(n) = standard::read_all(&mut rt.stdin(), &rt, &mut bytes) else {
+        return Ok(ExitCode::FAILURE);
+    };
+    if 65536 <= n {
+        println!(rt; "list too long")?;
+    } else {
+        print_list(&rt, &bytes[..n])?;
+    }
+    Ok(ExitCode::SUCCESS)
 }
