@@ -2,7 +2,6 @@
 -- of the reservation block, a row of a value, where a region lies, the console. In each, a call's answer stands with its contract, and then
 -- with what a match found it to be. Assumes nothing.
 use mathlib.Core.Path.{◌≡◌, refl, sym, ap}
-use mathlib.Core.Logic.{◌⊎◌, ⊎_elim}
 use Prim.Native.Nat.{ℕ, ◌+◌, ◌-◌, ◌^◌, ◌≤◌, ◌<◌}
 use native.Mathlib.Nat.{div-le_self}
 use native.Mathlib.Omega.{arith}
@@ -12,7 +11,6 @@ use mathlib.Core.Option.{Option, some, none as nothing}
 use lib.ListN.{length}
 use lib.Dec.{leb}
 use borrow.Author.Tests.{eq-eqb, ne_eqb, le-leb, lt-leb, leb-true, leb-false}
-use denote.Enum.Declared
 use Rattle.words.specs.Bytes.{part_of}
 use Rattle.words.proofs.BytesLaws.{part_none, part_length}
 use Rattle.entry.specs.declared.BootloaderMemoryKind.TheVariants.{Reserved}
@@ -29,7 +27,6 @@ use Rattle.windows.specs.declared.Window.{Window}
 use Rattle.reservations.specs.declared.Reservation.{Reservation}
 use Rattle.reservations.specs.declared.Reservation.TheVariants.{Entry, End, Past}
 use Rattle.reservations.specs.Reservations.{entry_of}
-use Rattle.reservations.specs.contracts.Reservation as reservation
 use Rattle.nodes.specs.declared.Found.{Found}
 use Rattle.nodes.specs.declared.Found.TheVariants.{At, Nothing}
 use Rattle.nodes.specs.Nav.{inside, prop_at, child_at}
@@ -68,16 +65,16 @@ module _ (b n : List ℕ) (f : Found) (is : f ≡ path_at b n slash) where
     soc_is e = rw (← is, root, ← e, found)
 
 -- ── The reservation block ──
--- an entry that is none, as a match on it tells: by its place among the cases
+-- an entry that is none
 pub entry-none :
     (b n v : List ℕ) (i : ℕ) (c : Cursor) (x : Reservation)
     → x ≡ entry_of v i
-    → (Declared.tag_of reservation.the_type x ≡ 1) ⊎ (Declared.tag_of reservation.the_type x ≡ 2)
+    → ((r : Region) → x ≡ Entry r → ⊥)
     → On (enter_at b n Reserve) ≡ entry_step b n (entry_of v i) c
 entry-none b n v i c x is k = rw (← is) (go x k)
   where
-    go : (y : Reservation) → (Declared.tag_of reservation.the_type y ≡ 1) ⊎ (Declared.tag_of reservation.the_type y ≡ 2) → On (enter_at b n Reserve) ≡ entry_step b n y c
-    go (Entry r) l = absurd (⊎_elim (λ e. omega arith) (λ e. omega arith) l)
+    go : (y : Reservation) → ((r : Region) → y ≡ Entry r → ⊥) → On (enter_at b n Reserve) ≡ entry_step b n y c
+    go (Entry r) l = absurd (l r refl)
     go End l = refl
     go Past l = refl
 

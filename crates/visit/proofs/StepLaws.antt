@@ -41,7 +41,7 @@ use Rattle.claims.proofs.ClaimLaws.{child_regions_lem}
 use Rattle.visit.specs.declared.Stage.{Stage}
 use Rattle.visit.specs.declared.Stage.TheVariants.{Entries, Children, Virt, Console, Over}
 use Rattle.visit.specs.declared.Cursor.{Cursor}
-use Rattle.visit.specs.Steps.{cursor_at, start_at, enter_at, yields, entry_step, after_at, child_next, row_step, child_step, virt_step, step_of}
+use Rattle.visit.specs.Steps.{next_row, cursor_at, start_at, enter_at, yields, entry_step, after_at, child_next, row_step, child_step, virt_step, step_of}
 use Rattle.visit.specs.Script.{claims_in, rows_script, kids_script, block_script, soc_script, way_script, controllers_on, console_on, soc_on, virt_on, devices_on, reserved_on, after_on, script, Follows}
 use Rattle.visit.proofs.LeftLaws.{RowsLeft, rows_left, EntriesLeft, entries_left, and_then_lem, claims_append, claims_block, claims-kids}
 use Rattle.visit.proofs.EnterLaws.{value_part, enter_is, enter_stands}
@@ -138,7 +138,7 @@ module _ (b n block : List ℕ) (arm : Bool) where
 
     entries_follow : (x : Reservation) → EntriesLeft block row x → Follows b n block arm (here Entries) (entry_step b n x (here Entries))
     unfolding script block_script reserved_on after_on
-    entries_follow (Entry r) e = follows_yield (block_claim r) _ _ (rw e) stands
+    entries_follow (Entry r) e = follows_yield (block_claim r) (here Entries) (next_row (here Entries)) (rw e) stands
     entries_follow BlockEnd e = (rw (e, enter_is b n block arm Reserve), enter_stands b n Reserve)
     entries_follow Past e = (rw (e, enter_is b n block arm Reserve), enter_stands b n Reserve)
 
@@ -175,7 +175,7 @@ module _ (b n block : List ℕ) (arm : Bool) where
     rows_follow : (way : Way) (x : RegRow) → RowsLeft (entries (reg_of own length (part_of b value.at value.len))) row x
         → Follows b n block arm (here (Children way)) (row_step b n arm way (here (Children way)) x)
     unfolding script rows_script
-    rows_follow way (RegAt r) e = follows_yield (claim_by way table r) _ _ (rw e) stands
+    rows_follow way (RegAt r) e = follows_yield (claim_by way table r) (here (Children way)) (next_row (here (Children way))) (rw e) stands
     rows_follow way PastReg e = (rw (e, next-is way next stands), child_stands way next)
     rows_follow way NoReg e = (rw (e, next-is way next stands), child_stands way next)
 

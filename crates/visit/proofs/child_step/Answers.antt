@@ -1,0 +1,27 @@
+-- `visit::child_step` meets its contract: the row of the value at hand, or past its rows the next child. Assumes nothing.
+use mathlib.Core.Path.{sym, ◌∙◌, ap}
+use native.Mathlib.Omega.{arith}
+use Rattle.visit.specs.declared.Step.TheVariants.{On}
+use Rattle.visit.proofs.CodeLaws.{row_inside, row_is}
+use Rattle.visit.proofs.child_step.Goals as goal
+
+pub overflow_add-row : goal.overflow_add-row
+overflow_add-row c =
+    let k = c in
+    omega (arith, row_inside _ _ _ _ _ _ _ _ k.part-entries.ensures (sym k.reg_row.ensures ∙ c.in-RegAt.is))
+
+pub returns-in-RegAt : goal.returns-in-RegAt
+returns-in-RegAt c =
+    let k = c in
+    rw c.with_row.ensures at c.region_step.ensures
+    ∙ row_is _ _ _ _ _ _ _ _ k.part-entries.ensures k.reg_row.ensures c.in-RegAt.is
+
+pub returns-in-PastReg : goal.returns-in-PastReg
+returns-in-PastReg c =
+    let k = c in
+    ap On c.next_child.ensures ∙ row_is _ _ _ _ _ _ _ _ k.part-entries.ensures k.reg_row.ensures c.in-PastReg.is
+
+pub returns-in-NoReg : goal.returns-in-NoReg
+returns-in-NoReg c =
+    let k = c in
+    ap On c.next_child-in-NoReg.ensures ∙ row_is _ _ _ _ _ _ _ _ k.part-entries.ensures k.reg_row.ensures c.in-NoReg.is

@@ -1,0 +1,14 @@
+-- `visit::enter` meets its contract: the cursor before the first child of the parent that is found. Assumes nothing.
+use Rattle.visit.specs.Steps.{enter_at}
+use Rattle.visit.proofs.enter.Goals as goal
+
+pub returns-in_default : goal.returns-in_default
+unfolding enter_at
+returns-in_default c = rw (← c.parent_of.ensures, c.in_default.is) c.start_at.ensures
+
+pub returns : goal.returns
+unfolding enter_at
+returns c =
+    let k = c in
+    rw (← k.parent_of.ensures, k.in-At.is, ← c.first_subnode.ensures, ← c.address_cells.ensures)
+    (rw (← c.root_cells.ensures, ← c.size_cells.ensures, ← c.ranges_of.ensures))
