@@ -9,22 +9,13 @@ ghost use Rattle.memory.specs.Made.{Made};
 use memory::{Answer, MemoryMap, Registered};
 
 // Registers a range in a lent map by the number of its kind. A refusal leaves the map as it was.
-// The lent map is split into its fields, and the fields of the map that comes back are stored one by one.
 pub fn register(map: &mut MemoryMap, base: u64, size: u64, kind: u64) -> Answer
     requires { Made 4096 map.old }
     ensures { (result ≡ (registered 4096 map.old (claim base size kind)).answer) × (map.new ≡ (registered 4096 map.old (claim base size kind)).map) }
 {
-    let parts = MemoryMap {
-        starts: map.starts,
-        ends: map.ends,
-        kinds: map.kinds,
-        size: map.size,
-    };
+    let parts = *map;
     let r = parts.register(base, size, kind);
-    map.starts = r.map.starts;
-    map.ends = r.map.ends;
-    map.kinds = r.map.kinds;
-    map.size = r.map.size;
+    *map = r.map;
     r.answer
 }
 
