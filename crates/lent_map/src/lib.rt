@@ -14,16 +14,22 @@ pub fn register(map: &mut MemoryMap, base: u64, size: u64, kind: u64) -> Answer
     requires { Made 4096 map.old }
     ensures { (result ≡ (registered 4096 map.old (claim base size kind)).answer) × (map.new ≡ (registered 4096 map.old (claim base size kind)).map) }
 {
+    let starts = map.starts;
+    let ends = map.ends;
+    let kinds = map.kinds;
     let parts = MemoryMap {
-        starts: map.starts,
-        ends: map.ends,
-        kinds: map.kinds,
+        starts,
+        ends,
+        kinds,
         size: map.size,
     };
     let r = parts.register(base, size, kind);
-    map.starts = r.map.starts;
-    map.ends = r.map.ends;
-    map.kinds = r.map.kinds;
+    let starts = r.map.starts;
+    let ends = r.map.ends;
+    let kinds = r.map.kinds;
+    map.starts = starts;
+    map.ends = ends;
+    map.kinds = kinds;
     map.size = r.map.size;
     r.answer
 }
