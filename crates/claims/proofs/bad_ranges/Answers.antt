@@ -1,0 +1,31 @@
+-- `bad_ranges` meets its contract: by the first row of the `ranges` of /soc, and where that cannot be read by its children. Assumes nothing.
+use mathlib.Core.Path.{refl}
+use Rattle.claims.proofs.JudgeLaws.{first_found, no_soc, no_ranges, readable, met}
+use Rattle.claims.proofs.bad_ranges.Goals as goal
+
+pub returns-in_default : goal.returns-in_default
+returns-in_default c = no_soc _ _ _ _ c.subnode.ensures c.in_default.is
+
+pub returns-in_default-getprop : goal.returns-in_default-getprop
+returns-in_default-getprop c = no_ranges _ _ _ _ c.subnode.ensures _ c.in-At.is _ c.getprop.ensures c.in_default-getprop.is
+
+pub some_child-requires : goal.some_child-requires
+some_child-requires c = first_found _ _ _ _ c.first_subnode-first.ensures
+
+pub returns-in-NoRange : goal.returns-in-NoRange
+returns-in-NoRange c =
+    met _ _ _ _ c.subnode.ensures _ c.in-At.is _ c.getprop.ensures _ _ c.in-Here.is _ c.part.ensures _ _ _ c.address_cells-own.ensures
+    c.address_cells-parent.ensures c.size_cells-length.ensures _ c.range_row.ensures
+    c.in-NoRange.is _ c.first_subnode-first.ensures _ c.some_child.ensures
+
+pub returns-in-PastRange : goal.returns-in-PastRange
+returns-in-PastRange c =
+    readable _ _ _ _ c.subnode.ensures _ c.in-At.is _ c.getprop.ensures _ _ c.in-Here.is _ c.part.ensures _ _ _ c.address_cells-own.ensures
+    c.address_cells-parent.ensures c.size_cells-length.ensures _ c.range_row.ensures
+    _ c.in-PastRange.is refl
+
+pub returns-in-RangeAt : goal.returns-in-RangeAt
+returns-in-RangeAt c =
+    readable _ _ _ _ c.subnode.ensures _ c.in-At.is _ c.getprop.ensures _ _ c.in-Here.is _ c.part.ensures _ _ _ c.address_cells-own.ensures
+    c.address_cells-parent.ensures c.size_cells-length.ensures _ c.range_row.ensures
+    _ c.in-RangeAt.is refl

@@ -1,0 +1,19 @@
+-- `reserved_value` meets its contract: `status` first, then `reg`, then the dynamic case. Assumes nothing.
+use Rattle.claims.specs.Values.{child_value}
+use Rattle.claims.proofs.reserved_value.Goals as goal
+
+pub returns-then-not-reserved_memory_node_is_available : goal.returns-then-not-reserved_memory_node_is_available
+unfolding child_value
+returns-then-not-reserved_memory_node_is_available c =
+    rw (← c.reserved_memory_node_is_available.ensures, c.if-not-reserved_memory_node_is_available.true)
+
+pub returns-in-Here : goal.returns-in-Here
+unfolding child_value
+returns-in-Here c =
+    rw (← c.reserved_memory_node_is_available.ensures, c.if-not-reserved_memory_node_is_available.false, ← c.getprop.ensures, c.in-Here.is)
+
+pub returns-in-Missing : goal.returns-in-Missing
+unfolding child_value
+returns-in-Missing c =
+    rw (← c.reserved_memory_node_is_available.ensures, c.if-not-reserved_memory_node_is_available.false, ← c.getprop.ensures, c.in-Missing.is)
+    c.dynamic_value.ensures
