@@ -6,6 +6,7 @@ ghost use Rattle.memory.specs.Made.{Made};
 
 use fdt::{Blocks, Opened, Token};
 use memory::{MemoryMap, Registered};
+use std::io::{Read, Result};
 use stream::Tally;
 use translation::{Sought, Translated};
 use visit::{Claimed, Step};
@@ -348,7 +349,7 @@ fn replay_case(buf: &[u8], at: usize) -> u64 {
 
 // Replays case after case. A proved loop has to end, and nothing says that a stream does, so it counts its turns
 // down, from a number that no run uses up.
-fn replay(buf: &mut [u8; SPACE]) -> Tally {
+fn replay<R: Read, E: Eprint>(input: &mut R, told: &E, buf: &mut [u8; SPACE]) -> Tally {
     let mut tally = stream::fresh();
     let mut have: usize = 0;
     let mut at: usize = 0;
@@ -356,7 +357,7 @@ fn replay(buf: &mut [u8; SPACE]) -> Tally {
     while 0 < turns {
         turns -= 1;
         if !is_whole(buf, at, have) {
-            have = stream::refill(buf, at, have);
+            have = stream::refill(input, told, buf, at, have);
             at = 0;
             if have == 0 {
                 return tally;
@@ -372,7 +373,8 @@ fn replay(buf: &mut [u8; SPACE]) -> Tally {
     tally
 }
 
-fn main() {
+fn main(rt: HostRuntime) -> Result<()> {
     let mut buf = [0u8; SPACE];
-    stream::report(replay(&mut buf), b"case");
+    let tally = replay(&mut rt.stdin(), &rt, &mut buf);
+    stream::report(&rt, tally, b"case")
 }

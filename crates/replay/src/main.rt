@@ -8,6 +8,7 @@ ghost use Rattle.memory.specs.Made.{Made};
 use areas::{Built, Limit};
 use entry::FoundEntry;
 use memory::{MemoryMap, Registered};
+use std::io::{Read, Result};
 use stream::Tally;
 
 // The bytes that are held of the stream. A case takes less than half of them.
@@ -324,15 +325,15 @@ fn replay_case(buf: &[u8], at: usize, p: Parts) -> u64 {
 
 // Replays case after case. A proved loop has to end, and nothing says that a stream does, so it counts its turns
 // down, from a number that no run uses up.
-fn replay(buf: &mut [u8; SPACE]) -> Tally {
+fn replay<R: Read, E: Eprint>(input: &mut R, told: &E, buf: &mut [u8; SPACE]) -> Tally {
     let mut tally = stream::fresh();
-    let mut have = stream::refill(buf, 0, 0);
+    let mut have = stream::refill(input, told, buf, 0, 0);
     let mut at: usize = 0;
     let mut turns = u64::MAX;
     while 0 < turns {
         turns -= 1;
         if SPACE / 2 < at {
-            have = stream::refill(buf, at, have);
+            have = stream::refill(input, told, buf, at, have);
             at = 0;
         }
         if have <= at {
@@ -349,7 +350,8 @@ fn replay(buf: &mut [u8; SPACE]) -> Tally {
     tally
 }
 
-fn main() {
+fn main(rt: HostRuntime) -> Result<()> {
     let mut buf = [0u8; SPACE];
-    stream::report(replay(&mut buf), b"case");
+    let tally = replay(&mut rt.stdin(), &rt, &mut buf);
+    stream::report(&rt, tally, b"case")
 }

@@ -6,6 +6,7 @@ use cells::{CellCount, Region};
 use fdt::{Blocks, Opened, Token};
 use nodes::{Found, Value};
 use reservations::Reservation;
+use std::io::{Read, Result};
 use stream::Tally;
 
 // The bytes that are held of the stream. The largest tree takes half of them, and its text is short.
@@ -776,7 +777,7 @@ fn is_whole(buf: &[u8], at: usize, have: usize) -> bool {
 
 // Replays case after case. A proved loop has to end, and nothing says that a stream does, so it counts its turns
 // down, from a number that no run uses up.
-fn replay(buf: &mut [u8; SPACE]) -> Tally {
+fn replay<R: Read, E: Eprint>(input: &mut R, told: &E, buf: &mut [u8; SPACE]) -> Tally {
     let mut tally = stream::fresh();
     let mut have: usize = 0;
     let mut at: usize = 0;
@@ -784,7 +785,7 @@ fn replay(buf: &mut [u8; SPACE]) -> Tally {
     while 0 < turns {
         turns -= 1;
         if !is_whole(buf, at, have) {
-            have = stream::refill(buf, at, have);
+            have = stream::refill(input, told, buf, at, have);
             at = 0;
             if have == 0 {
                 return tally;
@@ -800,7 +801,8 @@ fn replay(buf: &mut [u8; SPACE]) -> Tally {
     tally
 }
 
-fn main() {
+fn main(rt: HostRuntime) -> Result<()> {
     let mut buf = [0u8; SPACE];
-    stream::report(replay(&mut buf), b"tree");
+    let tally = replay(&mut rt.stdin(), &rt, &mut buf);
+    stream::report(&rt, tally, b"tree")
 }

@@ -1,0 +1,10 @@
+-- `append` is safe and ends.
+use Prim.Native.Nat.{◌-◌}
+use lib.ListN.{length}
+use Rattle.trees.proofs.append.Given as goal
+
+abbrev pub invariant-loop-i : goal.invariant-loop-i
+invariant-loop-i l = Unit {0}
+
+abbrev pub decreases-loop-i : goal.decreases-loop-i
+decreases-loop-i l = length l.step - l.i
