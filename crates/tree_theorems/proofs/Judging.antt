@@ -1,5 +1,5 @@
 -- What judging a tree says, in the words of 7 and 8: "Checked in this order", 7 before 8. Assumes nothing.
-use mathlib.Core.Path.{◌≡◌, refl, sym, ◌∙◌, subst}
+use mathlib.Core.Path.{◌≡◌, refl, subst}
 use mathlib.Core.Logic.{◌↔◌}
 use mathlib.Core.Bool.{Bool, true, false}
 use Rattle.words.proofs.BytesLaws.{cond_elim, never}

@@ -9,31 +9,26 @@ use mathlib.Core.Option.{Option, some, none as nothing}
 use lib.ListN.{length}
 use lib.Dec.{eqb}
 use borrow.Author.Tests.{eq-eqb, eqb-true}
-use Rattle.words.specs.Bytes.{word}
 use Rattle.words.proofs.BytesLaws.{never}
 use Rattle.cells.specs.declared.CellCount.{CellCount}
 use Rattle.cells.specs.declared.CellCount.TheVariants.{Stated, Absent, Faulty}
 use Rattle.cells.specs.declared.Region.{Region}
-use Rattle.cells.specs.declared.Range.{Range}
 use Rattle.cells.specs.Count.{stated_by}
-use Rattle.cells.specs.Rows.{Table, unreadable, rows, reg_of, ranges_of}
+use Rattle.cells.specs.Rows.{Table, unreadable, rows, ranges_of}
 use Rattle.cells.proofs.CountLaws.{stated_is, stated_not}
 use Rattle.cells.proofs.RowsLaws.{reg_unreadable, ranges_unreadable}
 use Rattle.fdt.specs.Tree.{Property, Nodes}
-use Rattle.nodes.specs.Nav.{same_bytes}
 use Rattle.nodes.specs.Cells.{address_cells, size_cells}
-use Rattle.nodes.specs.OnTree.{kids_of}
 use Rattle.reading.specs.Values.{value_of, count_of}
 use Rattle.reading.proofs.Values.{same_equal, equal_same}
-use Rattle.subtree.specs.Names.{reg_name, ranges_name, status_name, okay, model_name, dummy_virt, soc_name, reserved_memory_name}
+use Rattle.subtree.specs.Names.{ranges_name, status_name, okay, model_name, dummy_virt, soc_name, reserved_memory_name}
 use Rattle.subtree.specs.Subtree.{props_of, under_root}
 use Rattle.text.specs.Strings.{string_in}
 use Rattle.text.proofs.StringLaws.{contains_exactly}
 use Rattle.translation.specs.Translation.{address_of, size_of}
 use Rattle.reserved.specs.Reserved.{available_by, available, stated_alike, is_empty, children_count}
 use Rattle.claims.specs.Claims.{holds_virt, is_virt}
-use Rattle.claims.specs.Judging.{is_unreadable, has_entry, in_value, child_is, some_kid, bad_reg, bad_ranges}
-use Rattle.tree_theorems.specs.Children.{Child}
+use Rattle.claims.specs.Judging.{is_unreadable, has_entry, in_value, child_is, bad_reg, bad_ranges}
 use Rattle.tree_theorems.specs.Unreadable.{States, ChildrenCount, Counts, UnreadableReg, UnreadableRanges, ReadableEntry, BadReserved, Virtual, BadSoc}
 use Rattle.tree_theorems.proofs.SomeChild.{some_exactly}
 
