@@ -1,0 +1,40 @@
+use mathlib.Core.Path.{◌≡◌, refl, sym, ◌∙◌}
+use Prim.Native.Nat.{◌-◌}
+use native.Mathlib.Omega.{arith}
+use lib.ListN.{length}
+use Rattle.write_run.specs.Run.{run_of, ran_of, stepped}
+use Rattle.write_run.proofs.Running.{past, step_goes, step_ends, calls_over}
+use Rattle.write_run.proofs.write_calls.Goals as goal
+
+pub loop-at-init : goal.loop-at-init
+unfolding ran_of
+loop-at-init c = let e : length c.args.calls.now - 0 ≡ length c.args.calls.now = omega arith in (omega arith, rw (e, c.start-w.ensures))
+
+pub returns-in_default : goal.returns-in_default
+returns-in_default c =
+    let l = c.loop-at in
+    let m = c.make_call-step in
+    sym (step_ends _ _ _ l.w l.size _ (stepped m.result m.new.out) _ l.invariant.0 c.loop-at-test.true c.read_call-read.ensures m.ensures c.in_default.not-Goes) ∙ l.invariant.1
+
+pub loop-at-smaller : goal.loop-at-smaller
+loop-at-smaller c =
+    let l = c.loop-at in
+    let m = c.make_call-step in
+    let on = past _ _ _ l.w l.size _ (stepped m.result m.new.out) _ l.invariant.0 c.loop-at-test.true c.read_call-read.ensures m.ensures c.in-Goes.is in
+    omega (arith, on, c.loop-at-test.true)
+
+pub loop-at-preserved : goal.loop-at-preserved
+loop-at-preserved c =
+    let l = c.loop-at in
+    let m = c.make_call-step in
+    let on = past _ _ _ l.w l.size _ (stepped m.result m.new.out) _ l.invariant.0 c.loop-at-test.true c.read_call-read.ensures m.ensures c.in-Goes.is in (
+      omega (arith, on, l.invariant.0),
+      sym (step_goes _ _ _ l.w l.size _ (stepped m.result m.new.out) _ l.invariant.0 c.loop-at-test.true c.read_call-read.ensures m.ensures c.in-Goes.is) ∙ l.invariant.1,
+    )
+
+pub returns : goal.returns
+unfolding run_of
+returns c =
+    let l = c.loop-at in
+    let e = l.invariant.1 in
+    rw c.end_of.ensures (rw (calls_over (length c.args.calls.now - l.index) _ _ c.loop-at-test.false) at e)
