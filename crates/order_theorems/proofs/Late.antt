@@ -49,7 +49,7 @@ run_dealt {p} {low} {high} {cs} {m} {n} {l} h [] i r e =
     let z : i - i ≡ 0 = omega arith in
     rw (e ∙ run_none p m n l i) (record { index = omega arith; dealt = rw (z, append-nil cs) h })
 run_dealt {p} {low} {high} {cs} {m} {n} {l} h (d ∷ ds) i r e =
-    go (late_gives p m d n l) refl (λ q. run_dealt (late d h q) ds (i + 1) r (e ∙ run_on p m n l i d ds (late_of p m d n l) refl q))
+    go (late_gives p m d n l) refl (λ q. run_dealt {cs = cs ++ (d ∷ [])} (late d h q) ds (i + 1) r (e ∙ run_on p m n l i d ds (late_of p m d n l) refl q))
   where
     go : (k : ℕ) → late_gives p m d n l ≡ k → (late_gives p m d n l ≡ 0 → Deals p low high (cs ++ (d ∷ [])) ds (i + 1) r) → Deals p low high cs (d ∷ ds) i r
     go zero q rest =

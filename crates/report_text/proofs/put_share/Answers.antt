@@ -1,0 +1,13 @@
+-- `report_text::put_share` meets its contract: in each arm the share's text is the arm's (TextLaws). Assumes nothing.
+use borrow.Author.Rules.{rules}
+use Rattle.report_text.proofs.TextLaws.{share_none, share_bits}
+use Rattle.report_text.proofs.WritingLaws.{same_text}
+use Rattle.report_text.proofs.put_share.Goals as goal
+
+pub returns-in-NoBits : goal.returns-in-NoBits
+returns-in-NoBits c =
+    let d = c in same_text c.put.ensures (share_none d.args.sheet d.share_bits.ensures d.in-NoBits.is)
+
+pub returns-in-Bits : goal.returns-in-Bits
+returns-in-Bits c =
+    let d = c in same_text c.put_hex.ensures (share_bits d.args.sheet d.share_bits.ensures d.in-Bits.is)
