@@ -10,6 +10,9 @@ use areas::Limit;
 use entry::{FoundEntry, MemoryEntry};
 use memory::MemoryMap;
 
+// The number of the kind Free.
+const FREE: u64 = 1;
+
 // None where no page is Free, else usable over Free.
 #[derive(Clone, Copy)]
 pub enum Share {
@@ -89,7 +92,7 @@ pub fn free_pages(map: MemoryMap, low: Limit, high: Limit) -> u64
     let mut pages: u64 = 0;
     let mut i: usize = 0;
     while i < held {
-        if kinds[i] == 1 {
+        if kinds[i] == FREE {
             let free = MemoryEntry {
                 start: starts[i],
                 end: ends[i],

@@ -3,7 +3,7 @@ use native.Mathlib.Nat.{le_of_lt}
 use native.Mathlib.Omega.{arith}
 use Rattle.sheet.proofs.Counting.{meet_some, pages_few, begins, passes, misses, adds, counted_all}
 use Rattle.sheet.proofs.free_pages.Goals as goal
-use Rattle.sheet.proofs.free_pages.Goals.{then-kinds-i-eq1+in-Entry, then-kinds-i-eq1+in-Nothing, else-kinds-i-eq1}
+use Rattle.sheet.proofs.free_pages.Goals.{then-kinds-i-eq-FREE+in-Entry, then-kinds-i-eq-FREE+in-Nothing, else-kinds-i-eq-FREE}
 
 pub loop-i-init : goal.loop-i-init
 loop-i-init c = begins _ _ _ _ _ _
@@ -15,10 +15,10 @@ pub loop-i-preserved : goal.loop-i-preserved
 loop-i-preserved c =
     let inv = c.loop-i.invariant in
     let lt = c.loop-i-test.true in
-    elim c.if-kinds-i-eq1.branch [
-      | then-kinds-i-eq1+in-Entry w ↦ adds inv lt w.if-kinds-i-eq1.true w.in-Entry.part (sym w.in-Entry.is ∙ w.intersect.ensures) (pages_few 4096 (omega arith) _ _ (omega arith)) w.pages-is
-      | then-kinds-i-eq1+in-Nothing w ↦ misses inv lt w.if-kinds-i-eq1.true (sym w.in-Nothing.is ∙ w.intersect.ensures) w.pages-is
-      | else-kinds-i-eq1 w ↦ passes inv lt w.if-kinds-i-eq1.false w.pages-is
+    elim c.if-kinds-i-eq-FREE.branch [
+      | then-kinds-i-eq-FREE+in-Entry w ↦ adds inv lt w.if-kinds-i-eq-FREE.true w.in-Entry.part (sym w.in-Entry.is ∙ w.intersect.ensures) (pages_few 4096 (omega arith) _ _ (omega arith)) w.pages-is
+      | then-kinds-i-eq-FREE+in-Nothing w ↦ misses inv lt w.if-kinds-i-eq-FREE.true (sym w.in-Nothing.is ∙ w.intersect.ensures) w.pages-is
+      | else-kinds-i-eq-FREE w ↦ passes inv lt w.if-kinds-i-eq-FREE.false w.pages-is
     ]
 
 pub returns : goal.returns
