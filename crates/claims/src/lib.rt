@@ -89,7 +89,7 @@ pub fn lands(
     }
 }
 
-// The value of `alloc_ranges` of a dynamic reservation, where it leaves no choice.
+// The value of `alloc-ranges` of a dynamic reservation, where it leaves no choice.
 fn dynamic_value<'a>(
     structure: &'a [u8],
     strings: &'a [u8],
