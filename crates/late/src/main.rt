@@ -1,7 +1,9 @@
 // The areas of an order file, given on standard input, with late claims behind it. All that it does stands in `program`; how that ended is
-// told on standard error, and is left here, since a Rattle program has no exit status. service/late.c is the same program with one.
+// told on standard error, and is the exit status. service/late.c is the same program, linked by C.
 #![tactic(auto)]
 
-fn main() {
-    program::late();
+use std::process::ExitCode;
+
+fn main(rt: HostRuntime) -> ExitCode {
+    ExitCode::from(program::late(&mut rt.stdin(), &mut rt.stdout(), &rt).status())
 }

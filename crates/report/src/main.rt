@@ -1,7 +1,9 @@
 // The report of an order file that is given on standard input. All that it does stands in `program`; how that ended is told on standard
-// error, and is left here, since a Rattle program has no exit status. service/report.c is the same program with one.
+// error, and is the exit status. service/report.c is the same program, linked by C.
 #![tactic(auto)]
 
-fn main() {
-    program::report();
+use std::process::ExitCode;
+
+fn main(rt: HostRuntime) -> ExitCode {
+    ExitCode::from(program::report(&mut rt.stdin(), &mut rt.stdout(), &rt).status())
 }

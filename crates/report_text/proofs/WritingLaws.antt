@@ -86,3 +86,7 @@ module _ {a x b : List ℕ} {q : ℕ} (w : Writes a 0 x b q) where
 
   pub text_inside : q ≤ length b
   text_inside = omega (arith, text_length, length-take q b)
+
+  -- and what is text is the text
+  pub text_taken : take q b ≡ x
+  text_taken = front w (omega arith)

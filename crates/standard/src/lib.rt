@@ -5,7 +5,7 @@
 // A program's `main` lends its runtime's streams; a function that C calls has them as parameters, which take no bytes.
 #![tactic(auto)]
 
-ghost use Rattle.std.specs.Prelude.{◌≤◌, ◌≡◌};
+ghost use Rattle.std.specs.Prelude.{◌≤◌, ◌≡◌, ◌≢◌};
 ghost use Rattle.standard.specs.Input.{Holds, Reads, ReadsAll};
 ghost use Rattle.standard.specs.Status.{status_of, Writes};
 
@@ -87,7 +87,8 @@ pub fn read_all<R: Read, E: Eprint>(input: &mut R, told: &E, space: &mut [u8]) -
 
 // Writes all of a text to standard output.
 pub fn write_all<W: Write, E: Eprint>(output: &mut W, told: &E, text: &[u8]) -> Ending
-    ensures { Writes (W.contents output.old) (W.contents output.new) text.now result }
+    ensures bytes { Writes (W.contents output.old) (W.contents output.new) text.now result }
+    ensures no_read { result ≢ Ending.Unread }
 {
     match output.write_all(text) {
         Ok(()) => Ending::Written,
