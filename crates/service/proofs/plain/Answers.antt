@@ -1,6 +1,5 @@
 -- `plain` answers a report in plain fields, by its cases.
 use lib.Ieee
-use borrow.Author.Rules.{rules}
 use Rattle.service.proofs.plain.Goals as goal
 
 pub returns-in-Refused : goal.returns-in-Refused

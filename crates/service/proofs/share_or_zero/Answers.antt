@@ -1,7 +1,6 @@
 -- `share_or_zero` answers the share, or +0: the literal 0.0 is its bit pattern, which reads as +0.
 use mathlib.Core.Path.{ap, sym}
 use lib.Ieee
-use borrow.Author.Rules.{rules}
 use Rattle.service.specs.Plain.{share_float}
 use Rattle.service.proofs.share_or_zero.Goals as goal
 

@@ -1,6 +1,5 @@
 -- `wharfthrum_build` answers the build's report in plain fields, and leaves the slots that the build leaves.
 use mathlib.Core.Path.{ap, ◌∙◌}
-use borrow.Author.Rules.{rules}
 use Rattle.service.specs.Plain.{plain_of}
 use Rattle.service.proofs.wharfthrum_build.Goals as goal
 

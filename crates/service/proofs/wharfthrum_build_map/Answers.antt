@@ -1,6 +1,5 @@
 -- `wharfthrum_build_map` answers the build's report in plain fields, and leaves the slots and the map that the build leaves. Assumes nothing.
 use mathlib.Core.Path.{ap, ◌∙◌}
-use borrow.Author.Rules.{rules}
 use Rattle.service.specs.Plain.{plain_of}
 use Rattle.service.proofs.Leaving.{left_refused, left_done}
 use Rattle.service.proofs.wharfthrum_build_map.Goals as goal

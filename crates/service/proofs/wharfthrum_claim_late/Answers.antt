@@ -1,5 +1,4 @@
 -- `wharfthrum_claim_late` makes the late claim on the map that it loads, and stores the map that the claim leaves. Assumes nothing.
-use borrow.Author.Rules.{rules}
 use Rattle.service.proofs.Leaving.{left_answer, left_slots, left_memory}
 use Rattle.service.proofs.wharfthrum_claim_late.Goals as goal
 

@@ -1,6 +1,5 @@
 -- `wharfthrum_number` answers the number of the report under 512 slots.
 use mathlib.Core.Path.{ap, ◌∙◌}
-use borrow.Author.Rules.{rules}
 use Rattle.startup.specs.Report.{report_number}
 use Rattle.service.proofs.wharfthrum_number.Goals as goal
 
