@@ -159,6 +159,7 @@ pub fn child_value<'a>(
 }
 
 // Whether the tree is that of a virtual board whose devices the build knows.
+#[tactic(auto, unfolding(crate::specs::Claims::is_virt))]
 pub fn is_qemu_virt<'a>(structure: &'a [u8], strings: &'a [u8], arm: bool) -> bool
     ensures { result ≡ is_virt arm (root_at structure.now strings.now) }
 {
