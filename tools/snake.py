@@ -12,7 +12,7 @@ import re
 import sys
 
 WORD = re.compile(r'[^\s(){}.;,@"`«»\[\]|\\→λ]+')
-DECL = re.compile(r"^(\s*)((?:(?:pub|abbrev|unfoldable|opaque|instance)\s+)*)([^\s(){}.;,@\"`:]+)((?:\s+[^\s(){}.;,@\"`:]+)*)\s+:\s+(.*)$")
+DECL = re.compile(r"^(\s*)((?:(?:pub|abbrev|unfoldable|opaque|instance)\s+)*)([^\s(){}.;,@\"`:]+)((?:\s+[^\s(){}.;,@\"`:]+)*)\s+:(?:\s+(.*))?$")
 HEAD = re.compile(r"^\s*(?:(?:pub|abbrev|unfoldable)\s+)*(record|data)\s+(\S+)")
 USE = re.compile(r"use\s+([^\s;{]+?)\.?(?:\{([^}]*)\}|\s+as\s+(\S+))", re.S)
 SPAN = re.compile(r"`[^`\n]+`")
@@ -95,7 +95,7 @@ def declared(p):
         m = DECL.match(line)
         if not m:
             continue
-        if is_proof_of(p) and (re.match(r"(tie|goal)\.", m[5]) or m[3].endswith("-spec")):
+        if is_proof_of(p) and (re.match(r"(tie|goal)\.|$", m[5] or "") or m[3].endswith("-spec")):
             continue
         for n in [m[3]] + m[4].split():
             if odd(n) and WORD.fullmatch(n):
