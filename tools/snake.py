@@ -55,6 +55,8 @@ LEMMAS = {
 
 def lemmas(text, path):
     """`_lem` behind the lemmas of LEMMAS, in the text of a file of crates/."""
+    if any(n + "_lem" in text for names in LEMMAS.values() for n in names):
+        return text  # turned before
     for module, names in LEMMAS.items():
         own = path.endswith("/crates/" + module + ".antt")
         path_of = "Rattle." + module.replace("/", ".")
