@@ -12,7 +12,7 @@ import re
 import sys
 
 WORD = re.compile(r'[^\s(){}.;,@"`«»\[\]|\\→λ]+')
-DECL = re.compile(r"^(\s*)((?:(?:pub|abbrev|unfoldable|opaque|instance)\s+)*)([^\s(){}.;,@\"`:]+)((?:\s+[^\s(){}.;,@\"`:]+)*)\s+:\s+(.*)$")
+DECL = re.compile(r"^(\s*)((?:(?:pub|abbrev|unfoldable|opaque|instance)\s+)*)([^\s(){}.;,@\"`:]+)((?:\s+[^\s(){}.;,@\"`:]+)*)\s+:(?:\s+(.*))?$")
 HEAD = re.compile(r"^\s*(?:(?:pub|abbrev|unfoldable)\s+)*(record|data)\s+(\S+)")
 USE = re.compile(r"use\s+([^\s;{]+?)\.?(?:\{([^}]*)\}|\s+as\s+(\S+))", re.S)
 SPAN = re.compile(r"`[^`\n]+`")
@@ -55,6 +55,8 @@ LEMMAS = {
 
 def lemmas(text, path):
     """`_lem` behind the lemmas of LEMMAS, in the text of a file of crates/."""
+    if any(n + "_lem" in text for names in LEMMAS.values() for n in names):
+        return text  # turned before
     for module, names in LEMMAS.items():
         own = path.endswith("/crates/" + module + ".antt")
         path_of = "Rattle." + module.replace("/", ".")
@@ -95,7 +97,7 @@ def declared(p):
         m = DECL.match(line)
         if not m:
             continue
-        if is_proof_of(p) and (re.match(r"(tie|goal)\.", m[5]) or m[3].endswith("-spec")):
+        if is_proof_of(p) and (re.match(r"(tie|goal)\.|$", m[5] or "") or m[3].endswith("-spec")):
             continue
         for n in [m[3]] + m[4].split():
             if odd(n) and WORD.fullmatch(n):

@@ -1,7 +1,7 @@
 /* Times the opening of a tree: our fdt::open_tree, through crates/tree_bench, beside libfdt's fdt_check_full, on the same
    bytes and in one process.
 
-       rt staticlib tree_bench
+       tools/build tree_bench
        cc -O3 -o target/trees/bench trees/bench.c target/staticlib/libtree_bench.a -lfdt
        target/trees/bench
 

@@ -216,10 +216,10 @@ module _ (x z n : ℕ) where
   )
 
 module _ (x y z n : ℕ) where
-  pub unreadable-three :
+  pub unreadable_three :
       Unreadable (eqb x 0 || (eqb y 0 || eqb z 0)) (x + y + z) n ↔
       ((n ≡ 0 → ⊥) × ((x ≡ 0) ⊎ ((y ≡ 0) ⊎ ((z ≡ 0) ⊎ (n % (x + y + z) ≡ 0 → ⊥)))))
-  unreadable-three = (λ u. (u.0, to u.1), λ u. (u.0, from u.1))
+  unreadable_three = (λ u. (u.0, to u.1), λ u. (u.0, from u.1))
     where
       to : (((eqb x 0 || (eqb y 0 || eqb z 0)) ≡ true) ⊎ ((x + y + z ≡ 0) ⊎ (n % (x + y + z) ≡ 0 → ⊥))) → (x ≡ 0) ⊎ ((y ≡ 0) ⊎ ((z ≡ 0) ⊎ (n % (x + y + z) ≡ 0 → ⊥)))
       to (inl e) = ⊎_map (λ h. h) (λ h. ⊎_map (λ g. g) (λ g. inl (eqb-true _ _ g)) ((zero_or y (eqb z 0)).0 h)) ((zero_or x (eqb y 0 || eqb z 0)).0 e)
@@ -232,10 +232,10 @@ module _ (x y z n : ℕ) where
       from (inr (inr (inl e))) = inl ((zero_or x _).1 (inr ((zero_or y _).1 (inr (eq-eqb _ _ e)))))
       from (inr (inr (inr o))) = inr (inr o)
 
-  pub readable-three :
+  pub readable_three :
       Readable (eqb x 0 || (eqb y 0 || eqb z 0)) (x + y + z) n ↔
       ((n ≡ 0 → ⊥) × (x ≡ 0 → ⊥) × (y ≡ 0 → ⊥) × (z ≡ 0 → ⊥) × (n % (x + y + z) ≡ 0))
-  readable-three = (
+  readable_three = (
     λ r. let s = (no_zero x (eqb y 0 || eqb z 0)).0 r.sound in let q = (no_zero y (eqb z 0)).0 s.1 in
         (r.filled, s.0, q.0, eqb-false _ _ q.1, r.whole),
     λ q.
@@ -301,12 +301,12 @@ module _ (a c : CellCount) (v : List ℕ) where
       reg_is = rw (ex, ez)
 
       -- row i is there exactly when the value is readable and has more than i rows
-      pub reg-there :
+      pub reg_there :
           (r : Region) → reg_row (reg_of a c v) i ≡ RegAt r ↔
           (((length v ≡ 0 → ⊥) × (x ≡ 0 → ⊥) × (z ≡ 0 → ⊥) × (length v % (x + z) ≡ 0)) ×
           (i < length v / (x + z)) ×
           (r ≡ region_at v x z (i * (x + z))))
-      reg-there r =
+      reg_there r =
           let g = gives_row reg_picks (region_at v x z) (eqb x 0 || eqb z 0) (x + z) (length v) i r in
           let w = readable_two x z (length v) in
           rw reg_is (λ e. let q = g.0 e in (w.0 q.0, q.1, q.2), λ q. g.1 (w.1 q.0, q.1, q.2))
@@ -335,11 +335,11 @@ module _ (a p c : CellCount) (v : List ℕ) where
   unfolding ranges_of
   ranges_unreadable = (
     λ e.
-        let u = (unreadable-three _ _ _ _).0 ((table_unreadable _ _ _ _).0 e) in
+        let u = (unreadable_three _ _ _ _).0 ((table_unreadable _ _ _ _).0 e) in
         (u.0, ⊎_map (address_none a).0 (⊎_map (address_none p).0 (⊎_map (size_none c).0 (λ o. o))) u.1),
     λ u.
         (table_unreadable _ _ _ _).1
-        ((unreadable-three _ _ _ _).1
+        ((unreadable_three _ _ _ _).1
         (u.0, ⊎_map (address_none a).1 (⊎_map (address_none p).1 (⊎_map (size_none c).1 (λ o. o))) u.1)),
   )
 
@@ -354,23 +354,23 @@ module _ (a p c : CellCount) (v : List ℕ) where
       ranges_is = rw (ex, ey, ez)
 
       -- row i is there exactly when the value is readable and has more than i rows
-      pub ranges-there :
+      pub ranges_there :
           (r : Range) → range_row (ranges_of a p c v) i ≡ RangeAt r ↔
           (((length v ≡ 0 → ⊥) × (x ≡ 0 → ⊥) × (y ≡ 0 → ⊥) × (z ≡ 0 → ⊥) × (length v % (x + y + z) ≡ 0)) ×
           (i < length v / (x + y + z)) ×
           (r ≡ range_at v x y z (i * (x + y + z))))
-      ranges-there r =
+      ranges_there r =
           let g = gives_row range_picks (range_at v x y z) (eqb x 0 || (eqb y 0 || eqb z 0)) (x + y + z) (length v) i r in
-          let w = readable-three x y z (length v) in
+          let w = readable_three x y z (length v) in
           rw ranges_is (λ e. let q = g.0 e in (w.0 q.0, q.1, q.2), λ q. g.1 (w.1 q.0, q.1, q.2))
 
       module _ (filled : length v ≡ 0 → ⊥) where
         pub ranges_no : (x ≡ 0) ⊎ ((y ≡ 0) ⊎ ((z ≡ 0) ⊎ (length v % (x + y + z) ≡ 0 → ⊥))) → range_row (ranges_of a p c v) i ≡ NoRange
-        ranges_no h = ap (λ (u : Table Range). range_row u i) ranges_is ∙ at_unreadable range_picks _ _ _ _ i ((unreadable-three x y z (length v)).1 (filled, h))
+        ranges_no h = ap (λ (u : Table Range). range_row u i) ranges_is ∙ at_unreadable range_picks _ _ _ _ i ((unreadable_three x y z (length v)).1 (filled, h))
 
       module _ (readable : (length v ≡ 0 → ⊥) × (x ≡ 0 → ⊥) × (y ≡ 0 → ⊥) × (z ≡ 0 → ⊥) × (length v % (x + y + z) ≡ 0)) where
         pub ranges_past : length v / (x + y + z) ≤ i → range_row (ranges_of a p c v) i ≡ PastRange
-        ranges_past h = ap (λ (u : Table Range). range_row u i) ranges_is ∙ at_past range_picks _ _ _ _ i ((readable-three x y z (length v)).1 readable) h
+        ranges_past h = ap (λ (u : Table Range). range_row u i) ranges_is ∙ at_past range_picks _ _ _ _ i ((readable_three x y z (length v)).1 readable) h
 
         pub ranges_row : i < length v / (x + y + z) → range_row (ranges_of a p c v) i ≡ RangeAt (range_at v x y z (i * (x + y + z)))
-        ranges_row h = ap (λ (u : Table Range). range_row u i) ranges_is ∙ at_row range_picks _ _ _ _ i ((readable-three x y z (length v)).1 readable) h
+        ranges_row h = ap (λ (u : Table Range). range_row u i) ranges_is ∙ at_row range_picks _ _ _ _ i ((readable_three x y z (length v)).1 readable) h

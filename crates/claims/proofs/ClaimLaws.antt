@@ -90,7 +90,7 @@ module _ (b n : List ℕ) (q : ℕ) (x : Value) (is : x ≡ prop_at b n q interr
   no_controller e = rw (by, ← value_at b n q interrupt_controller_name, ← is, e)
 
 -- ── A dynamic reservation ──
--- x and y are where `size` and `alloc_ranges` stand, v and w their values, and k whether they leave no choice
+-- x and y are where `size` and `alloc-ranges` stand, v and w their values, and k whether they leave no choice
 pub exact_is : (b n : List ℕ) (q : ℕ) (x : Value) → x ≡ prop_at b n q size_name → (y : Value) → y ≡ prop_at b n q alloc_ranges_name
     → (at len : ℕ) → x ≡ Here at len → (to long : ℕ) → y ≡ Here to long
     → (v : List ℕ) → v ≡ part_of b at len → (w : List ℕ) → w ≡ part_of b to long
@@ -99,7 +99,7 @@ pub exact_is : (b n : List ℕ) (q : ℕ) (x : Value) → x ≡ prop_at b n q si
 exact_is b n q x ex y ey at len hx to long hy v ev w ew a c e is k ek = rw (← ex, hx, ← ey, hy, ← ev, ← ew, ← is, ek)
 
 -- ── The entries of a child's value ──
--- in the exact dynamic case the region is the one entry of `alloc_ranges`
+-- in the exact dynamic case the region is the one entry of `alloc-ranges`
 exact_row : (size : ℕ) (t : Table Region) (r : Region) → exact_by size t ≡ One r → t ≡ rows (r ∷ [])
 unfolding exact_by
 exact_row size unreadable r e = never (cc)

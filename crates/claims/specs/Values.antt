@@ -1,4 +1,4 @@
--- Where the value stands whose entries a child claims. The exact dynamic case claims the one entry of `alloc_ranges`, so it is read as a
+-- Where the value stands whose entries a child claims. The exact dynamic case claims the one entry of `alloc-ranges`, so it is read as a
 -- `reg` is. ClaimLaws.child_regions_lem says that its entries are the child's regions.
 use Rattle.std.specs.Prelude.{ℕ, List, cond}
 use Rattle.words.specs.Bytes.{part_of}

@@ -89,7 +89,7 @@ pub fn lands(
     }
 }
 
-// The value of `alloc_ranges` of a dynamic reservation, where it leaves no choice.
+// The value of `alloc-ranges` of a dynamic reservation, where it leaves no choice.
 fn dynamic_value<'a>(
     structure: &'a [u8],
     strings: &'a [u8],
@@ -159,6 +159,7 @@ pub fn child_value<'a>(
 }
 
 // Whether the tree is that of a virtual board whose devices the build knows.
+#[tactic(auto, unfolding(crate::specs::Claims::is_virt))]
 pub fn is_qemu_virt<'a>(structure: &'a [u8], strings: &'a [u8], arm: bool) -> bool
     ensures { result ≡ is_virt arm (root_at structure.now strings.now) }
 {

@@ -1,6 +1,6 @@
 -- Where the order file ends, as the code goes; and a good order file with anything behind it ends where it did, so that the cut gives back
 -- both. Assumes nothing.
-use mathlib.Core.Path.{◌≡◌, sym, ap, ◌∙◌}
+use mathlib.Core.Path.{◌≡◌, ap, ◌∙◌}
 use Prim.Native.Nat.{ℕ, ◌+◌, ◌*◌, ◌≤◌, ◌<◌, min}
 use native.Mathlib.Omega.{arith}
 use mathlib.Core.List.{List, ◌++◌}

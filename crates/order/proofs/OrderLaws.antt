@@ -5,10 +5,10 @@ use mathlib.Core.Logic.{◌↔◌, ◌⊎◌, inl, inr}
 use Prim.Native.Nat.{ℕ, ◌+◌, ◌*◌, ◌≤◌, ◌<◌}
 use native.Mathlib.Omega.{arith}
 use mathlib.Core.List.{List}
-use mathlib.Core.Bool.{Bool, true, false, not, ◌&&◌, ◌||◌}
+use mathlib.Core.Bool.{Bool, true, false, ◌&&◌, ◌||◌}
 use lib.ListN.{length, get_or}
 use lib.Dec.{leb, eqb, ltb}
-use borrow.Author.Tests.{eq-eqb, le-leb, lt-ltb, leb-true, eqb-true, ltb-true, not-true, not-false}
+use borrow.Author.Tests.{eq-eqb, le-leb, lt-ltb, leb-true, eqb-true, ltb-true}
 use Rattle.numbers.specs.Number.{Names}
 use Rattle.numbers.proofs.Given.{given}
 use Rattle.words.specs.Bytes.{part_of}

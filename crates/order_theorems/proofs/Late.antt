@@ -1,7 +1,7 @@
 -- Demand 3 over an order file and the late claims behind it, as the program `late` makes them, up to the first refusal: request L3 of
 -- document 02. Assumes nothing.
 use mathlib.Core.Path.{◌≡◌, refl, ap, sym, ◌∙◌}
-use mathlib.Core.Bool.{Bool, true, false, cond}
+use mathlib.Core.Bool.{Bool, true, false}
 use mathlib.Core.List.{List, [], ◌∷◌, ◌++◌, append-nil, append_assoc}
 use Prim.Native.Nat.{ℕ, zero, suc, ◌+◌, ◌-◌, ◌≤◌}
 use native.Mathlib.Omega.{arith}
@@ -13,8 +13,6 @@ use Rattle.areas.specs.declared.Limit.{Limit}
 use Rattle.demand3.specs.Rule.{map_after, SameClaims, SameLimits}
 use Rattle.demand3.specs.Slots.{number_slot, SlotsRight}
 use Rattle.sheet.specs.declared.PageSheet.{PageSheet}
-use Rattle.order.specs.declared.OrderRead.{OrderRead}
-use Rattle.order.specs.declared.OrderRead.TheVariants.{Layout, BadOrder as NoOrder}
 use Rattle.order.specs.Layout.{good_order, order_in, order_of}
 use Rattle.startup.specs.declared.Refusal.TheVariants.{BadOrder}
 use Rattle.startup.specs.declared.Report.{Report}

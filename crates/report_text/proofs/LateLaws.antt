@@ -11,7 +11,6 @@ use Rattle.sheet.specs.declared.PageSheet.{PageSheet}
 use Rattle.bootloader.specs.List.{claims}
 use Rattle.order.specs.Layout.{file_end}
 use Rattle.startup.specs.declared.Refusal.{Refusal}
-use Rattle.startup.specs.declared.Report.{Report}
 use Rattle.startup.specs.declared.Report.TheVariants.{Done, Refused}
 use Rattle.startup.specs.declared.Start.{Start}
 use Rattle.startup.specs.Verdict.{refusal_number}

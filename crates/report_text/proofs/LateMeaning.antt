@@ -1,5 +1,5 @@
 -- What the text of late claims says beside the report: document 02, request L3, its program. Assumes nothing.
-use mathlib.Core.Path.{◌≡◌, refl, ap, ◌∙◌}
+use mathlib.Core.Path.{◌≡◌, refl}
 use mathlib.Core.List.{List, ◌++◌}
 use Prim.Native.Nat.{ℕ, ◌/◌, ◌<◌}
 use native.Mathlib.Omega.{arith}
@@ -15,7 +15,7 @@ use Rattle.startup.specs.declared.Report.TheVariants.{Done, Refused}
 use Rattle.startup.specs.Report.{report_number, report_of, slots_after}
 use Rattle.report_text.specs.Text.{count_line, area_lines, pages_line, text_of, report_text}
 use Rattle.late_claim.specs.declared.LateAnswer.TheVariants.{Done as LateDone}
-use Rattle.late_run.specs.Run.{Run, run, late_all}
+use Rattle.late_run.specs.Run.{run, late_all}
 use Rattle.report_text.specs.LateText.{made_line, lines_of, text_by, text_behind, late_text}
 
 -- "an order file and, right after its end (its length is what its header says), late claims"

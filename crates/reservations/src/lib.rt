@@ -35,6 +35,7 @@ pub fn reservation_block(s: &[u8], blocks: Blocks) -> &[u8]
 }
 
 // Entry i of the block.
+#[tactic(auto, unfolding(crate::specs::Reservations::entry_of))]
 pub fn reserved_entry(block: &[u8], i: usize) -> Reservation
     ensures { result ≡ entry_of block.now i }
 {

@@ -1,4 +1,4 @@
--- The exact dynamic case, from answers in hand: the number in `size`, and rows 0 and 1 of `alloc_ranges`. Assumes nothing.
+-- The exact dynamic case, from answers in hand: the number in `size`, and rows 0 and 1 of `alloc-ranges`. Assumes nothing.
 use mathlib.Core.Path.{◌≡◌, refl, sym, ◌∙◌, ap}
 use Prim.Native.Nat.{ℕ, ◌+◌, ◌*◌, ◌-◌, ◌^◌, ◌≤◌, ◌<◌}
 use native.Mathlib.Omega.{arith}

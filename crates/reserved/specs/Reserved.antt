@@ -41,7 +41,7 @@ children_count root ps =
     && (stated_alike (count_of (value_of size_cells root)) (count_of (value_of size_cells ps))
     && is_empty (value_of ranges_name ps))
 
--- "`alloc_ranges` is one entry of that same nonzero size, and the sum is below 2^64"
+-- "`alloc-ranges` is one entry of that same nonzero size, and the sum is below 2^64"
 unfoldable pub exact_by : ℕ → Table Region → Exact
 exact_by size unreadable = NotExact
 exact_by size (rows []) = NotExact

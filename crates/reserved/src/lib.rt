@@ -89,7 +89,7 @@ pub fn reserved_memory_node_is_available<'a>(
     }
 }
 
-// The region of a dynamic reservation whose `alloc_ranges` leave it no choice. Both values are read by /reserved-memory's own cells.
+// The region of a dynamic reservation whose `alloc-ranges` leave it no choice. Both values are read by /reserved-memory's own cells.
 pub fn visit_exact_dynamic_reserved_memory_range<'a>(
     size: &'a [u8],
     ranges: &'a [u8],

@@ -1,6 +1,6 @@
 -- What `wharfthrum_claim_late` asks of the map's memory, the calls leave so: a caller that uses only these calls owes nothing. And a refused
 -- claim leaves every number of it. Assumes nothing.
-use mathlib.Core.Path.{◌≡◌, refl, ap, sym, subst, ◌∙◌}
+use mathlib.Core.Path.{◌≡◌, ap, sym, subst, ◌∙◌}
 use mathlib.Core.List.{List}
 use Prim.Native.Nat.{ℕ}
 use native.Mathlib.Omega.{arith}

@@ -1,10 +1,9 @@
 -- The map beside the report, as the code ends; and it is one that every call takes. Assumes nothing.
-use mathlib.Core.Path.{◌≡◌, refl, ap, sym, ◌∙◌}
+use mathlib.Core.Path.{◌≡◌, refl}
 use mathlib.Core.List.{List}
 use Prim.Native.Nat.{ℕ}
 use Rattle.page.specs.Round.{Page}
 use Rattle.memory.specs.declared.MemoryMap.{MemoryMap}
-use Rattle.memory.specs.Map.{blank}
 use Rattle.memory.specs.Made.{Made}
 use Rattle.memory.proofs.MapLaws.{blank_made}
 use Rattle.areas.specs.declared.Limit.{Limit}
@@ -19,7 +18,7 @@ use Rattle.startup.specs.declared.Sources.{Sources}
 use Rattle.startup.specs.declared.Report.{Report}
 use Rattle.startup.specs.declared.Report.TheVariants.{Done, Refused}
 use Rattle.startup.specs.declared.Start.{Start}
-use Rattle.startup.specs.Verdict.{run_of, sources_of}
+use Rattle.startup.specs.Verdict.{sources_of}
 use Rattle.startup.specs.Report.{report_of, Reports, Finishes}
 use Rattle.startup.specs.Start.{kept_map, file_map, map_left, Starts, start, not_started, StartFinishes}
 use Rattle.startup.proofs.SourceLaws.{run_made}

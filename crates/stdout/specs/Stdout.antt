@@ -14,7 +14,7 @@ use Rattle.translation.specs.Translation.{translated}
 use Rattle.stdout.specs.declared.Uart.{Uart}
 use Rattle.stdout.specs.declared.Uart.TheVariants.{Range, NoUart}
 
--- "`stdout_path` of /chosen up to a colon"
+-- "`stdout-path` of /chosen up to a colon"
 abbrev pub before_colon : List ℕ → List ℕ
 before_colon s = bytes s 0 (first_byte 58 s 0)
 

@@ -17,7 +17,7 @@ status_name = 115 ∷ 116 ∷ 97 ∷ 116 ∷ 117 ∷ 115 ∷ []
 abbrev pub size_name : List ℕ
 size_name = 115 ∷ 105 ∷ 122 ∷ 101 ∷ []
 
--- `alloc_ranges`
+-- `alloc-ranges`
 abbrev pub alloc_ranges_name : List ℕ
 alloc_ranges_name = 97 ∷ 108 ∷ 108 ∷ 111 ∷ 99 ∷ 45 ∷ 114 ∷ 97 ∷ 110 ∷ 103 ∷ 101 ∷ 115 ∷ []
 
@@ -25,7 +25,7 @@ alloc_ranges_name = 97 ∷ 108 ∷ 108 ∷ 111 ∷ 99 ∷ 45 ∷ 114 ∷ 97 ∷ 
 abbrev pub model_name : List ℕ
 model_name = 109 ∷ 111 ∷ 100 ∷ 101 ∷ 108 ∷ []
 
--- `stdout_path`
+-- `stdout-path`
 abbrev pub stdout_path_name : List ℕ
 stdout_path_name = 115 ∷ 116 ∷ 100 ∷ 111 ∷ 117 ∷ 116 ∷ 45 ∷ 112 ∷ 97 ∷ 116 ∷ 104 ∷ []
 

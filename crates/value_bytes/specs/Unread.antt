@@ -1,5 +1,5 @@
 -- Document 01: "Where the strings block does not overlap the structure block, two trees that differ only in value bytes of properties other
--- than `#address-cells`, `#size-cells`, `ranges`, `reg`, `status`, `size`, `alloc_ranges`, `model`, `stdout_path` and those in /aliases
+-- than `#address-cells`, `#size-cells`, `ranges`, `reg`, `status`, `size`, `alloc-ranges`, `model`, `stdout-path` and those in /aliases
 -- give equal claims or the same refusal."
 use Rattle.std.specs.Prelude.{◌≡◌, false, List, [], ◌∷◌}
 use Rattle.fdt.specs.Tree.{Property, Nodes}

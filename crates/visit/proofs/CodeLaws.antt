@@ -22,7 +22,7 @@ use Rattle.cells.specs.declared.RegRow.{RegRow}
 use Rattle.cells.specs.declared.RegRow.TheVariants.{RegAt}
 use Rattle.cells.specs.Count.{address_width, size_width}
 use Rattle.cells.specs.Rows.{reg_of, ranges_of, reg_row}
-use Rattle.cells.proofs.RowsLaws.{reg-there}
+use Rattle.cells.proofs.RowsLaws.{reg_there}
 use Rattle.windows.specs.declared.Window.{Window}
 use Rattle.reservations.specs.declared.Reservation.{Reservation}
 use Rattle.reservations.specs.declared.Reservation.TheVariants.{Entry, End, Past}
@@ -66,12 +66,12 @@ module _ (b n : List ℕ) (f : Found) (is : f ≡ path_at b n slash) where
 
 -- ── The reservation block ──
 -- an entry that is none
-pub entry-none :
+pub entry_none :
     (b n v : List ℕ) (i : ℕ) (c : Cursor) (x : Reservation)
     → x ≡ entry_of v i
     → ((r : Region) → x ≡ Entry r → ⊥)
     → On (enter_at b n Reserve) ≡ entry_step b n (entry_of v i) c
-entry-none b n v i c x is k = rw (← is) (go x k)
+entry_none b n v i c x is k = rw (← is) (go x k)
   where
     go : (y : Reservation) → ((r : Region) → y ≡ Entry r → ⊥) → On (enter_at b n Reserve) ≡ entry_step b n y c
     go (Entry r) l = absurd (l r refl)
@@ -121,7 +121,7 @@ pub row_inside :
     → reg_row (reg_of a c v) i ≡ RegAt r
     → i < length s
 row_inside s at n v a c i r p e =
-    let h = (reg-there a c v i (address_width a) (size_width c) refl refl r).0 e in
+    let h = (reg_there a c v i (address_width a) (size_width c) refl refl r).0 e in
     omega (arith, h.1, div-le_self (length v) (address_width a + size_width c), ap length p, part_short s at n)
 
 module _ (b n : List ℕ) (arm : Bool) (way : Way) (c : Cursor) (v : List ℕ) (x y : RegRow) where

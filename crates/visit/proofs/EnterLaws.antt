@@ -85,44 +85,44 @@ module _ (b n : List ℕ) where
       (count_at b n q address_cells) (count_at b n q size_cells) (at b n (first_at b n q))
 
   -- and as the tree says it, whatever the ranges are
-  kept-is :
+  kept_is :
       (way : Way) (q : ℕ) (t : Table Range)
       → ranges_of (address_of (props_of (node_at b n q))) (root_cells b n) (size_of (props_of (node_at b n q)))
       (part_of b (ranges_by way (prop_at b n q ranges_name)).at (ranges_by way (prop_at b n q ranges_name)).len)
       ≡ t
       → kept_of way q ≡ kids_script way t (address_of (props_of (node_at b n q))) (size_of (props_of (node_at b n q))) (kids_of (node_at b n q))
-  kept-is way q t e = rw (own_cells q, own_length q, ← kids_at b n q, e)
+  kept_is way q t e = rw (own_cells q, own_length q, ← kids_at b n q, e)
 
   -- /reserved-memory's children
   module _ (r : ℕ) where
-    reserved-found :
+    reserved_found :
         (g : Found)
         → inside [] (kept_of Reserve) (inside Nothing (λ q. cond (children_count (props_of (node_at b n r)) (props_of (node_at b n q))) (At q) Nothing) g)
         ≡ cond (children_count (props_of (node_at b n r)) (props_of (at b n g)))
         (kids_script Reserve (rows []) (address_of (props_of (at b n g))) (size_of (props_of (at b n g))) (kids_of (at b n g)))
         []
-    reserved-found Nothing = rw count_none
-    reserved-found (At q) = pick (children_count (props_of (node_at b n r)) (props_of (node_at b n q)))
+    reserved_found Nothing = rw count_none
+    reserved_found (At q) = pick (children_count (props_of (node_at b n r)) (props_of (node_at b n q)))
       where
         pick : (t : Bool)
             → inside [] (kept_of Reserve) (cond t (At q) Nothing)
             ≡ cond t (kids_script Reserve (rows []) (address_of (props_of (node_at b n q))) (size_of (props_of (node_at b n q))) (kids_of (node_at b n q))) []
-        pick true = kept-is Reserve q (rows []) (no_ranges b _ _ _)
+        pick true = kept_is Reserve q (rows []) (no_ranges b _ _ _)
         pick false = refl
 
     -- /soc's, whose ranges are by the root's address cells
-    soc-found :
+    soc_found :
         count_at b n r address_cells ≡ root_cells b n
         → (g : Found)
         → inside [] (kept_of Soc) (inside Nothing (λ q. where_here (prop_at b n q ranges_name) q) g)
         ≡ soc_script (node_at b n r) (at b n g) (value_of ranges_name (props_of (at b n g)))
     unfolding value_of
-    soc-found e Nothing = refl
-    soc-found e (At q) = rw (← value_at b n q ranges_name) (pick (prop_at b n q ranges_name) refl)
+    soc_found e Nothing = refl
+    soc_found e (At q) = rw (← value_at b n q ranges_name) (pick (prop_at b n q ranges_name) refl)
       where
         pick : (v : Value) → prop_at b n q ranges_name ≡ v
             → inside [] (kept_of Soc) (where_here v q) ≡ soc_script (node_at b n r) (node_at b n q) (held b v)
-        pick (Here at len) u = kept-is Soc q _ (rw (u, ← e, own_cells r))
+        pick (Here at len) u = kept_is Soc q _ (rw (u, ← e, own_cells r))
         pick Missing u = refl
 
   -- the children of the parent that is found are the rule's children in the tree
@@ -137,19 +137,19 @@ module _ (b n : List ℕ) where
           f)
           ≡ way_script (at b n f) Reserve
       go Nothing = rw count_none
-      go (At r) = rw (← child_at_lem b n r reserved_memory_name) (reserved-found r (child_at b n r reserved_memory_name))
+      go (At r) = rw (← child_at_lem b n r reserved_memory_name) (reserved_found r (child_at b n r reserved_memory_name))
   way_is Soc = rw (← root_at_lem) (go (path_at b n slash) refl)
     where
       go : (f : Found) → path_at b n slash ≡ f
           → inside [] (kept_of Soc) (inside Nothing (λ r. inside Nothing (λ q. where_here (prop_at b n q ranges_name) q) (child_at b n r soc_name)) f)
           ≡ way_script (at b n f) Soc
       go Nothing e = refl
-      go (At r) e = rw (← child_at_lem b n r soc_name) (soc-found r (rw e) (child_at b n r soc_name))
+      go (At r) e = rw (← child_at_lem b n r soc_name) (soc_found r (rw e) (child_at b n r soc_name))
   way_is Controllers = rw (← root_at_lem) (go (path_at b n slash))
     where
       go : (f : Found) → inside [] (kept_of Controllers) f ≡ way_script (at b n f) Controllers
       go Nothing = refl
-      go (At r) = kept-is Controllers r (rows []) (no_ranges b _ _ _)
+      go (At r) = kept_is Controllers r (rows []) (no_ranges b _ _ _)
 
   -- the cursor before the first child of this parent
   abbrev before : Way → Found → Cursor

@@ -102,10 +102,10 @@ unfolding claims_in rows_script claims_by
 claims_rows way t [] = refl
 claims_rows way t (r ∷ l) = rw (claims_rows way t l)
 
-pub claims-kids :
+pub claims_kids :
     (way : Way) (t : Table Range) (a c : CellCount) (ks : Nodes) → claims_in (kids_script way t a c ks) ≡ kid_claims way t a c ks
 unfolding claims_in kids_script kid_claims
-claims-kids way t a c none = refl
-claims-kids way t a c (node q nm ps kids rest) =
+claims_kids way t a c none = refl
+claims_kids way t a c (node q nm ps kids rest) =
     claims_append (rows_script way t (child_regions way a c ps)) (kids_script way t a c rest)
-    ∙ rw (claims_rows way t (child_regions way a c ps), claims-kids way t a c rest)
+    ∙ rw (claims_rows way t (child_regions way a c ps), claims_kids way t a c rest)

@@ -43,7 +43,7 @@ use Rattle.visit.specs.declared.Stage.TheVariants.{Entries, Children, Virt, Cons
 use Rattle.visit.specs.declared.Cursor.{Cursor}
 use Rattle.visit.specs.Steps.{next_row, cursor_at, start_at, enter_at, yields, entry_step, after_at, child_next, row_step, child_step, virt_step, step_of}
 use Rattle.visit.specs.Script.{claims_in, rows_script, kids_script, block_script, soc_script, way_script, controllers_on, console_on, soc_on, virt_on, devices_on, reserved_on, after_on, script, Follows}
-use Rattle.visit.proofs.LeftLaws.{RowsLeft, rows_left, EntriesLeft, entries_left, and_then_lem, claims_append, claims_block, claims-kids}
+use Rattle.visit.proofs.LeftLaws.{RowsLeft, rows_left, EntriesLeft, entries_left, and_then_lem, claims_append, claims_block, claims_kids}
 use Rattle.visit.proofs.EnterLaws.{value_part, enter_is, enter_stands}
 
 -- ── The first cursor ──
@@ -55,7 +55,7 @@ module _ (t : Nodes) where
       go : (s : Nodes) (x : Bool)
           → claims_in (cond x (kids_script Reserve (rows []) (address_of (props_of s)) (size_of (props_of s)) (kids_of s)) [])
           ≡ cond x (kid_claims Reserve (rows []) (address_of (props_of s)) (size_of (props_of s)) (kids_of s)) []
-      go s true = claims-kids _ _ _ _ _
+      go s true = claims_kids _ _ _ _ _
       go s false = refl
 
   claims_soc : claims_in (way_script t Soc) ≡ soc_claims t
@@ -64,13 +64,13 @@ module _ (t : Nodes) where
     where
       go : (s : Nodes) (v : Option (List ℕ)) → claims_in (soc_script t s v) ≡ soc_by t s v
       go s nothing = refl
-      go s (some v) = claims-kids _ _ _ _ _
+      go s (some v) = claims_kids _ _ _ _ _
 
   claims_console : claims_in (console_on t) ≡ stdout_claims t ++ controller_claims t
   unfolding console_on controllers_on way_script stdout_claims controller_claims claims_in
   claims_console =
       ap (and_then (uart_claim (uart_of t)))
-      (claims_append (way_script t Controllers) (nothing ∷ []) ∙ append-nil _ ∙ claims-kids _ _ _ _ _)
+      (claims_append (way_script t Controllers) (nothing ∷ []) ∙ append-nil _ ∙ claims_kids _ _ _ _ _)
       ∙ sym (and_then_lem (uart_claim (uart_of t)) [] (controller_claims t))
 
   claims_devices : (arm : Bool) → claims_in (devices_on arm t) ≡ device_claims arm t
@@ -82,10 +82,10 @@ module _ (t : Nodes) where
       go false = claims_append (way_script t Soc) (nothing ∷ console_on t) ∙ rw (claims_soc, claims_console)
 
 -- THE THEOREM: from the first cursor on the claims are the tree's
-pub script-start :
+pub script_start :
     (b n block : List ℕ) (arm : Bool) → claims_in (script b n block arm (start_at Entries)) ≡ claims_of arm (entries_of block) (root_at b n)
 unfolding script reserved_on claims_in claims_of
-script-start b n block arm =
+script_start b n block arm =
     let z : length block / 16 - 0 ≡ length block / 16 = omega arith in
     rw z
     (claims_append (block_script (entries_of block)) (nothing ∷ reserved_on arm (root_at b n))
@@ -96,13 +96,13 @@ script-start b n block arm =
 
 -- ── A step ──
 -- the children in a row from one that is there
-kids-head :
+kids_head :
     (way : Way) (tb : Table Range) (a c : CellCount) (q : ℕ) (t : Nodes)
     → head_of t ≡ At q
     → kids_script way tb a c t ≡ nothing ∷ (rows_script way tb (child_regions way a c (props_of t)) ++ kids_script way tb a c (rest_of t))
 unfolding kids_script
-kids-head way tb a c q none h = never (cc)
-kids-head way tb a c q (node p nm ps kids rest) h = refl
+kids_head way tb a c q none h = never (cc)
+kids_head way tb a c q (node p nm ps kids rest) h = refl
 
 module _ (b n block : List ℕ) (arm : Bool) where
   -- a step that gives a claim or none
@@ -157,16 +157,16 @@ module _ (b n block : List ℕ) (arm : Bool) where
     table = ranges_of own parent length (part_of b ranges.at ranges.len)
 
     -- to the next child, or past the last one
-    next-is :
+    next_is :
         (way : Way) (f : Found) → Stands b n f
         → kids_script way table own length (at b n f) ++ (nothing ∷ after_on arm (root_at b n) way)
         ≡ nothing ∷ script b n block arm (child_next b n arm way (here (Children way)) f)
     unfolding script kids_script
-    next-is way (At q) h =
+    next_is way (At q) h =
         rw
-        (kids-head way table own length q (node_at b n q) h, value_part b own parent length (child_value b n way own length q), child_regions_lem b n way own length q)
+        (kids_head way table own length q (node_at b n q) h, value_part b own parent length (child_value b n way own length q), child_regions_lem b n way own length q)
         (rw (← rest_at b n q, append_assoc))
-    next-is way Nothing h = rw (after_is way)
+    next_is way Nothing h = rw (after_is way)
 
     child_stands : (way : Way) (f : Found) → Stands b n (child_next b n arm way (here (Children way)) f).next
     child_stands way (At q) = next_stands b n q
@@ -176,8 +176,8 @@ module _ (b n block : List ℕ) (arm : Bool) where
         → Follows b n block arm (here (Children way)) (row_step b n arm way (here (Children way)) x)
     unfolding script rows_script
     rows_follow way (RegAt r) e = follows_yield (claim_by way table r) (here (Children way)) (next_row (here (Children way))) (rw e) stands
-    rows_follow way PastReg e = (rw (e, next-is way next stands), child_stands way next)
-    rows_follow way NoReg e = (rw (e, next-is way next stands), child_stands way next)
+    rows_follow way PastReg e = (rw (e, next_is way next stands), child_stands way next)
+    rows_follow way NoReg e = (rw (e, next_is way next stands), child_stands way next)
 
     console_follows : Follows b n block arm (here Console) (yields (uart_claim (uart_of (root_at b n))) (enter_at b n Controllers))
     unfolding script console_on controllers_on after_on

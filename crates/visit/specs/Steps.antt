@@ -1,5 +1,5 @@
 -- The claims of a tree one after the other, as the code takes them: a cursor, and a step from it. specs/Script.antt says what is left to
--- claim from a cursor; StepLaws.script-start says that from the first one on these are the tree's claims.
+-- claim from a cursor; StepLaws.script_start says that from the first one on these are the tree's claims.
 use Rattle.std.specs.Prelude.{ℕ, ◌+◌, List, [], ◌∷◌, Bool, cond, eqb}
 use Rattle.std.proofs.Math.Option.{Option, some, none as nothing}
 use Rattle.words.specs.Bytes.{part_of}

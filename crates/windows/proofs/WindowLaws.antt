@@ -12,7 +12,7 @@ use Rattle.cells.specs.declared.Range.{Range}
 use Rattle.cells.specs.declared.RangeRow.TheVariants.{NoRange, PastRange, RangeAt}
 use Rattle.cells.specs.Count.{address_width, size_width}
 use Rattle.cells.specs.Rows.{Table, unreadable, rows, ranges_of, range_row}
-use Rattle.cells.proofs.RowsLaws.{ranges-there}
+use Rattle.cells.proofs.RowsLaws.{ranges_there}
 use Rattle.windows.specs.declared.Fit.{Fit}
 use Rattle.windows.specs.declared.Window.{Window}
 use Rattle.windows.specs.declared.Window.TheVariants.{To, Nowhere, Unreadable}
@@ -89,5 +89,5 @@ module _ (soc : Bool) (a n : ℕ) where
 -- a row's number is below the bytes of the value
 pub row_below : (a p c : CellCount) (v : List ℕ) (i : ℕ) (r : Range) → range_row (ranges_of a p c v) i ≡ RangeAt r → i < length v
 row_below a p c v i r e =
-    let w = (ranges-there a p c v i (address_width a) (address_width p) (size_width c) refl refl refl r).0 e in
+    let w = (ranges_there a p c v i (address_width a) (address_width p) (size_width c) refl refl refl r).0 e in
     omega (arith, w.1, div-le_self (length v) (address_width a + address_width p + size_width c))

@@ -6,14 +6,14 @@ use Rattle.memory.specs.Map.{map_of, left, registered}
 use Rattle.memory.specs.Run.{is_done, registered_all}
 use Rattle.memory.proofs.MapLaws.{one_made}
 use Rattle.memory.proofs.Refusing.{refused}
-use Rattle.visit.proofs.StepLaws.{script-start}
+use Rattle.visit.proofs.StepLaws.{script_start}
 use Rattle.dtb.proofs.TakingLaws.{went, claim_back, shorter, take_end, take_over, take_done, take_refused}
 use Rattle.dtb.proofs.register_claims_in.Goals as goal
 
 pub loop-claim-init : goal.loop-claim-init
 loop-claim-init c =
     let e = c.first_claim-cursor.ensures in
-    (c.requires, rw e refl, rw e (ap (registered_all 4096 _) (script-start _ _ _ _)))
+    (c.requires, rw e refl, rw e (ap (registered_all 4096 _) (script_start _ _ _ _)))
 
 pub register_in-r-requires : goal.register_in-r-requires
 register_in-r-requires c = c.loop-claim.invariant.0

@@ -2,7 +2,6 @@
 use mathlib.Core.Path.{sym}
 use native.Mathlib.Omega.{arith}
 use Rattle.order.proofs.EndLaws.{end_short, end_held}
-use borrow.Author.Rules.{rules}
 use Rattle.order.proofs.file_end.Goals as goal
 
 pub returns-then-input-lt112 : goal.returns-then-input-lt112

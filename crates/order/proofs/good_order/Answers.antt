@@ -1,7 +1,6 @@
 -- `order::good_order` meets its contract: each test that fails is a field that no good order has. Assumes nothing.
 use native.Mathlib.Omega.{arith}
 use Rattle.order.proofs.OrderLaws.{bad_order, limit_bad, limit_held, length_decides}
-use borrow.Author.Rules.{rules}
 use Rattle.order.proofs.good_order.Goals as goal
 
 pub returns-then-s-gt65536 : goal.returns-then-s-gt65536

@@ -1,5 +1,4 @@
 -- `order::limit_good` meets its contract: the flag decides, or else the number that `words::le64` reads. Assumes nothing.
-use borrow.Author.Rules.{rules}
 use Rattle.order.proofs.limit_good.Goals as goal
 
 pub returns : goal.returns

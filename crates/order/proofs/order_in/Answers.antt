@@ -1,6 +1,5 @@
 -- `order::order_in` meets its contract: each part is what its reader says. Assumes nothing.
 use Rattle.order.specs.Layout.{order_in}
-use borrow.Author.Rules.{rules}
 use Rattle.order.proofs.order_in.Goals as goal
 
 pub returns : goal.returns

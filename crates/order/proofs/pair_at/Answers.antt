@@ -1,5 +1,4 @@
 -- `order::pair_at` meets its contract: both numbers are `words::le64`'s. Assumes nothing.
-use borrow.Author.Rules.{rules}
 use Rattle.order.proofs.pair_at.Goals as goal
 
 pub returns : goal.returns

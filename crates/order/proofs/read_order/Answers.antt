@@ -1,8 +1,6 @@
 -- `order::read_order` meets its contract: the test picks the answer. Assumes nothing.
 use mathlib.Core.Path.{sym, ◌∙◌}
-use borrow.Author.Tests.{not-true, not-false}
 use Rattle.order.proofs.OrderLaws.{good_order_lem, order_bad, order_good}
-use borrow.Author.Rules.{rules}
 use Rattle.order.proofs.read_order.Goals as goal
 
 pub returns-then-not-good_order : goal.returns-then-not-good_order

@@ -4,7 +4,6 @@ use lib.ListN.{length-take}
 use Rattle.page.proofs.Laws.{page}
 use Rattle.report_text.proofs.WritingLaws.{same_text}
 use Rattle.report_text.proofs.LateLaws.{start_made, text_refused, slots_refused, text_done, slots_done}
-use borrow.Author.Rules.{rules}
 use Rattle.report_text.proofs.late.Goals as goal
 
 pub slice_bounds-init_map-end : goal.slice_bounds-init_map-end

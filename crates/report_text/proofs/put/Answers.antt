@@ -1,7 +1,4 @@
-use Prim.Native.Nat.{◌-◌}
-use borrow.Author.Rules.{rules}
-use lib.ListN.{length}
-use Rattle.report_text.proofs.WritingLaws.{Putting, begins, more, ends}
+use Rattle.report_text.proofs.WritingLaws.{begins, more, ends}
 use Rattle.report_text.proofs.put.Goals as goal
 
 pub loop-i-init : goal.loop-i-init

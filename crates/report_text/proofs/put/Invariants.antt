@@ -1,8 +1,7 @@
 -- `report_text::put` meets its contract. The invariant (WritingLaws): the first i bytes are put. The measure is what is left. Assumes nothing.
 use Prim.Native.Nat.{◌-◌}
-use borrow.Author.Rules.{rules}
 use lib.ListN.{length}
-use Rattle.report_text.proofs.WritingLaws.{Putting, begins, more, ends}
+use Rattle.report_text.proofs.WritingLaws.{Putting}
 use Rattle.report_text.proofs.put.Given as goal
 
 abbrev pub invariant-loop-i : goal.invariant-loop-i

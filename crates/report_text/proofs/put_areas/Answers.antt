@@ -1,6 +1,4 @@
-use Prim.Native.Nat.{◌-◌}
-use borrow.Author.Rules.{rules}
-use Rattle.report_text.proofs.TextLaws.{Listing, begins, room, more, ends}
+use Rattle.report_text.proofs.TextLaws.{begins, room, more, ends}
 use Rattle.report_text.proofs.put_areas.Goals as goal
 
 pub loop-i-init : goal.loop-i-init

@@ -1,7 +1,6 @@
 -- `report_text::put_areas` meets its contract. The invariant (TextLaws): the first i areas are put. The measure is what is left. Assumes nothing.
 use Prim.Native.Nat.{◌-◌}
-use borrow.Author.Rules.{rules}
-use Rattle.report_text.proofs.TextLaws.{Listing, begins, room, more, ends}
+use Rattle.report_text.proofs.TextLaws.{Listing}
 use Rattle.report_text.proofs.put_areas.Given as goal
 
 abbrev pub invariant-loop-i : goal.invariant-loop-i

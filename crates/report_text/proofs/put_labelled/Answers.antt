@@ -1,7 +1,6 @@
 -- `put_labelled` meets its contract: its texts stand one behind the other (WritingLaws). Assumes nothing.
 use native.Mathlib.Omega.{arith}
 use Rattle.report_text.proofs.WritingLaws.{writes_append}
-use borrow.Author.Rules.{rules}
 use Rattle.report_text.proofs.put_labelled.Goals as goal
 
 pub returns : goal.returns

@@ -4,7 +4,6 @@ use Rattle.report_text.proofs.DigitsLaws.{decimal_length}
 use Rattle.report_text.specs.LateText.{made_line, refused_at_line}
 use Rattle.report_text.proofs.LateLaws.{last_made, last_refused}
 use Rattle.report_text.proofs.WritingLaws.{same_text, writes_append}
-use borrow.Author.Rules.{rules}
 use Rattle.report_text.proofs.put_last.Goals as goal
 
 pub put-requires : goal.put-requires

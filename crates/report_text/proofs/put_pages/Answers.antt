@@ -1,5 +1,4 @@
 -- `report_text::put_pages` meets its contract: its texts stand one behind the other (WritingLaws). Assumes nothing.
-use borrow.Author.Rules.{rules}
 use native.Mathlib.Omega.{arith}
 use Rattle.report_text.specs.Text.{pages_line}
 use Rattle.report_text.proofs.DigitsLaws.{decimal_length}

@@ -1,5 +1,4 @@
 -- `report_text::put_share` meets its contract: in each arm the share's text is the arm's (TextLaws). Assumes nothing.
-use borrow.Author.Rules.{rules}
 use Rattle.report_text.proofs.TextLaws.{share_none, share_bits}
 use Rattle.report_text.proofs.WritingLaws.{same_text}
 use Rattle.report_text.proofs.put_share.Goals as goal

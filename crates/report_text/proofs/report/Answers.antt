@@ -1,4 +1,3 @@
-use borrow.Author.Rules.{rules}
 use Rattle.report_text.proofs.TextLaws.{text_of_report}
 use Rattle.report_text.proofs.report.Goals as goal
 

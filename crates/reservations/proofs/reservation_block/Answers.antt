@@ -1,6 +1,5 @@
 -- `reservation_block` is the part between its offset and the structure block, where it is not skipped. Assumes nothing.
 use mathlib.Core.Path.{◌∙◌}
-use borrow.Author.Rules.{rules}
 use Rattle.reservations.proofs.BlockLaws.{skipped_low, skipped_off, skipped_high, whole}
 use Rattle.reservations.proofs.reservation_block.Goals as goal
 

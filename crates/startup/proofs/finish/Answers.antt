@@ -1,5 +1,4 @@
 -- `finish` builds the areas, and counts the pages of the map and of the finished table.
-use borrow.Author.Rules.{rules}
 use Rattle.page.proofs.Laws.{page}
 use Rattle.startup.proofs.ReportLaws.{finish_full, finish_done}
 use Rattle.startup.proofs.finish.Goals as goal

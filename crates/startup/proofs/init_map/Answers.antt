@@ -3,7 +3,6 @@ use mathlib.Core.Path.{sym, ◌∙◌}
 use Rattle.page.proofs.Laws.{page}
 use Rattle.startup.proofs.ReportLaws.{reports_no_order, map_made, reports_refused}
 use Rattle.startup.proofs.StartLaws.{starts_refused, starts_finished}
-use borrow.Author.Rules.{rules}
 use Rattle.startup.proofs.init_map.Goals as goal
 
 pub start_finished-requires : goal.start_finished-requires

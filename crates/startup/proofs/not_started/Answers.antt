@@ -3,7 +3,6 @@ use mathlib.Core.Path.{ap}
 use Rattle.memory.specs.declared.MemoryMap.{MemoryMap}
 use Rattle.startup.specs.declared.Report.TheVariants.{Refused}
 use Rattle.startup.specs.Start.{start}
-use borrow.Author.Rules.{rules}
 use Rattle.startup.proofs.not_started.Goals as goal
 
 pub returns : goal.returns

@@ -1,6 +1,5 @@
 -- `register_memory_from_kernel_args` goes through the list, the tree and the pairs; each way out is a law on the run of them all.
 use mathlib.Core.Path.{sym, ◌∙◌}
-use borrow.Author.Rules.{rules}
 use Rattle.page.proofs.Laws.{page}
 use Rattle.memory.proofs.MapLaws.{blank_made}
 use Rattle.memory.proofs.Refusing.{refused}

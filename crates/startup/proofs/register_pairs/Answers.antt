@@ -1,6 +1,5 @@
 -- `register_pairs` registers on a copy, and hands back the empty map where that is refused.
 use mathlib.Core.Path.{ap, ◌∙◌}
-use borrow.Author.Rules.{rules}
 use Rattle.memory.specs.declared.Registered.{Registered}
 use Rattle.memory.specs.Map.{left}
 use Rattle.memory.specs.Run.{is_done}

@@ -1,6 +1,5 @@
 -- `rejected` puts the empty map beside the refusal.
 use mathlib.Core.Path.{ap}
-use borrow.Author.Rules.{rules}
 use Rattle.memory.specs.declared.MemoryMap.{MemoryMap}
 use Rattle.startup.specs.declared.Verdict.TheVariants.{Rejected}
 use Rattle.startup.specs.Verdict.{sources}

@@ -1,6 +1,5 @@
 -- `start_finished` keeps the map only beside areas (StartLaws). Assumes nothing.
 use Rattle.startup.proofs.StartLaws.{start_refused, start_done}
-use borrow.Author.Rules.{rules}
 use Rattle.startup.proofs.start_finished.Goals as goal
 
 pub returns-in-Refused : goal.returns-in-Refused

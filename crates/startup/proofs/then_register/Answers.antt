@@ -1,6 +1,5 @@
 -- `then_register` registers where none was refused before, and otherwise leaves all as it was.
 use mathlib.Core.Path.{ap, sym, ◌∙◌}
-use borrow.Author.Rules.{rules}
 use Rattle.memory.specs.Run.{is_done}
 use Rattle.memory.proofs.Refusing.{refused}
 use Rattle.startup.proofs.PairLaws.{then_done, then_refused}

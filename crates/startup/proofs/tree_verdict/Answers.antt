@@ -1,6 +1,5 @@
 -- `tree_verdict` goes by the cases of a tree's answer.
 use mathlib.Core.Path.{ap, sym}
-use borrow.Author.Rules.{rules}
 use Rattle.startup.specs.Verdict.{tree_fault}
 use Rattle.startup.proofs.tree_verdict.Goals as goal
 

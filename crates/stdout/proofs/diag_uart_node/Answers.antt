@@ -1,4 +1,4 @@
--- `stdout::diag_uart_node` meets its contract: the node of the name that /chosen's `stdout_path` has up to a colon. Assumes nothing.
+-- `stdout::diag_uart_node` meets its contract: the node of the name that /chosen's `stdout-path` has up to a colon. Assumes nothing.
 use mathlib.Core.Path.{◌∙◌}
 use Rattle.stdout.specs.Stdout.{stdout_by, stdout_in}
 use Rattle.stdout.proofs.StdoutLaws.{root_is, stdout_rootless, stdout_named, string_nowhere, string_missing, string_here}

@@ -3,11 +3,11 @@
 use mathlib.Core.Path.{sym, ◌∙◌}
 use native.Mathlib.Omega.{arith}
 use Rattle.visit.proofs.LeftLaws.{entry_inside}
-use Rattle.visit.proofs.CodeLaws.{entry-none, entry_gives, block_empty, block_far, block_near}
+use Rattle.visit.proofs.CodeLaws.{entry_none, entry_gives, block_empty, block_far, block_near}
 use Rattle.visit.proofs.visit_fdt_memory_reservations.Goals as goal
 
 pub returns-in_default : goal.returns-in_default
-returns-in_default c = rw c.enter.ensures (entry-none _ _ _ _ _ _ c.reserved_entry.ensures c.in_default.not-Entry)
+returns-in_default c = rw c.enter.ensures (entry_none _ _ _ _ _ _ c.reserved_entry.ensures c.in_default.not-Entry)
 
 pub overflow_add-row : goal.overflow_add-row
 overflow_add-row c = omega (arith, entry_inside _ _ _ (sym c.reserved_entry.ensures ∙ c.in-Entry.is))

@@ -6,9 +6,9 @@ use Rattle.write_run.specs.Run.{run_of, ran_of, stepped}
 use Rattle.write_run.proofs.Running.{past, step_goes, step_ends, calls_over}
 use Rattle.write_run.proofs.write_calls.Goals as goal
 
-pub loop-at-init : goal.loop-at-init
+pub loop_at_init : goal.loop_at_init
 unfolding ran_of
-loop-at-init c = let e : length c.args.calls.now - 0 ≡ length c.args.calls.now = omega arith in (omega arith, rw (e, c.start-w.ensures))
+loop_at_init c = let e : length c.args.calls.now - 0 ≡ length c.args.calls.now = omega arith in (omega arith, rw (e, c.start-w.ensures))
 
 pub returns-in_default : goal.returns-in_default
 returns-in_default c =

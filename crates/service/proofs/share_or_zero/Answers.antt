@@ -1,0 +1,9 @@
+-- `share_or_zero` answers the share, or +0: the literal 0.0 is its bit pattern, which reads as +0.
+use mathlib.Core.Path.{ap, sym}
+use lib.Ieee
+use Rattle.service.specs.Plain.{share_float}
+use Rattle.service.proofs.share_or_zero.Goals as goal
+
+pub returns-in-NoFree : goal.returns-in-NoFree
+unfolding Ieee.of_bits
+returns-in-NoFree c = sym (ap share_float c.in-NoFree.is)
