@@ -1,7 +1,7 @@
 -- The whole of a program: what it read is what its reader had, as far as it reads, and what it wrote is the text of that. Assumes nothing.
 use Rattle.std.proofs.Common.{◌≡◌, ℕ, ◌≤◌, ◌<◌, List, [], ◌++◌, arith, length, take, sym, ap, ◌∙◌, subst, lt_of_not-le, take_all, length-take-le}
 use Rattle.std.proofs.lemmas.List.{take-append-le, append-nil}
-use Rattle.std.specs.Prelude.{Option, None, Some, ⊤}
+use Rattle.std.specs.Prelude.{Option, None, Some}
 use Rattle.std.specs.Io.KnownBytes.{Consumes, IsAtEnd, Appends}
 use native.Mathlib.Decide.{dec_le}
 use Rattle.standard.specs.declared.Ending.{Ending}
