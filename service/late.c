@@ -1,8 +1,9 @@
-/* late: the program `late` with its exit status, which a Rattle program cannot have. */
+/* late: the program `late`, linked by C. */
 #include <signal.h>
 #include <stdint.h>
 
-/* What the program does, proved: crates/program. 0 where the text is written; 1 where a read failed, or there is more on standard input than
+/* What the program does, proved: crates/program, which crates/program_c offers to C. The three streams that it takes there are of no bytes,
+   so that nothing is passed for them. 0 where the text is written; 1 where a read failed, or there is more on standard input than
    it reads; 2 where a write failed. */
 uint8_t wharfthrum_late_program(void);
 

@@ -1,8 +1,9 @@
-/* report: the program `report` with its exit status, which a Rattle program cannot have. */
+/* report: the program `report`, linked by C. */
 #include <signal.h>
 #include <stdint.h>
 
-/* What the program does, proved: crates/program. 0 where the report is written, 1 where a read failed, 2 where a write failed. */
+/* What the program does, proved: crates/program, which crates/program_c offers to C. The three streams that it takes there are of no bytes,
+   so that nothing is passed for them. 0 where the report is written, 1 where a read failed, 2 where a write failed. */
 uint8_t wharfthrum_program(void);
 
 int main(void)
