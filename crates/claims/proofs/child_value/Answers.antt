@@ -12,11 +12,8 @@ returns-in-Soc c = rw c.in-Soc.is c.getprop.ensures
 
 pub returns-in-Here : goal.returns-in-Here
 returns-in-Here c =
-    let k = c in
-    let g = k in
-    controller _ _ _ _ g.getprop-in-Controllers.ensures _ g.in-Controllers.is _ _ _ _ k.in-Here.is _ c.getprop-in-Here.ensures
+    controller _ _ _ _ c.getprop-in-Controllers.ensures _ c.in-Controllers.is _ _ _ _ c.in-Here.is _ c.getprop-in-Here.ensures
 
 pub returns-in-Missing : goal.returns-in-Missing
 returns-in-Missing c =
-    let g = c in
-    no_controller _ _ _ _ g.getprop-in-Controllers.ensures _ g.in-Controllers.is _ _ c.in-Missing.is
+    no_controller _ _ _ _ c.getprop-in-Controllers.ensures _ c.in-Controllers.is _ _ c.in-Missing.is

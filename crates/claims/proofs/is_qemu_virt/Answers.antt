@@ -5,23 +5,14 @@ use Rattle.claims.proofs.is_qemu_virt.Goals as goal
 
 pub returns-in_default : goal.returns-in_default
 returns-in_default c =
-    let p = c in
-    virt_rootless _ _ _ p.path_offset.ensures _ (search rules) c.in_default.is
+    virt_rootless _ _ _ c.path_offset.ensures _ (search rules) c.in_default.is
 
 pub returns-in_default-string_of : goal.returns-in_default-string_of
 returns-in_default-string_of c =
-    let s = c in
-    let k = s in
-    let p = k in
-    virt_nameless _ _ _ p.path_offset.ensures _ (search rules) _ k.in-At.is _ s.string_of.ensures
+    virt_nameless _ _ _ c.path_offset.ensures _ (search rules) _ c.in-At.is _ c.string_of.ensures
     c.in_default-string_of.is
 
 pub returns : goal.returns
 returns c =
-    let v = c in
-    let m = v in
-    let s = m in
-    let k = s in
-    let p = k in
-    virt_by _ _ _ p.path_offset.ensures _ (search rules) _ k.in-At.is _ s.string_of.ensures
-    _ _ m.in-Here.is _ v.part.ensures _ c.holds.ensures
+    virt_by _ _ _ c.path_offset.ensures _ (search rules) _ c.in-At.is _ c.string_of.ensures
+    _ _ c.in-Here.is _ c.part.ensures _ c.holds.ensures

@@ -10,18 +10,13 @@ returns-in_default c = none_left _ _ _ _ _ _ _ c.loop-child.invariant c.in_defau
 
 pub returns-then-child_is : goal.returns-then-child_is
 returns-then-child_is c =
-    let r = c in
-    let k = r in
-    this_is _ _ _ _ _ _ _ k.loop-child.invariant _ k.in-At.is _ r.child_is.ensures c.if-child_is.true
+    this_is _ _ _ _ _ _ _ c.loop-child.invariant _ c.in-At.is _ c.child_is.ensures c.if-child_is.true
 
 pub loop-child-smaller : goal.loop-child-smaller
 loop-child-smaller c =
-    let k = c in
-    next_nearer _ _ _ _ _ _ _ k.loop-child.invariant _ k.in-At.is _ c.next_subnode-child.ensures
+    next_nearer _ _ _ _ _ _ _ c.loop-child.invariant _ c.in-At.is _ c.next_subnode-child.ensures
 
 pub loop-child-preserved : goal.loop-child-preserved
 loop-child-preserved c =
-    let r = c in
-    let k = r in
-    next_from _ _ _ _ _ _ _ k.loop-child.invariant _ k.in-At.is _ r.child_is.ensures c.if-child_is.false
+    next_from _ _ _ _ _ _ _ c.loop-child.invariant _ c.in-At.is _ c.child_is.ensures c.if-child_is.false
     _ c.next_subnode-child.ensures

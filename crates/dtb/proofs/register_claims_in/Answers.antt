@@ -20,12 +20,9 @@ register_in-r-requires c = c.loop-claim.invariant.0
 
 pub returns-in_default : goal.returns-in_default
 returns-in_default c =
-    let k = c in
-    let g = k.register_in-r in
-    let w = k in
-    let n = w in
-    let l = n.loop-claim in
-    let f = went _ _ _ _ l.cursor _ _ l.invariant.1 n.next_claim.ensures w.in-Claims.is in
+    let g = c.register_in-r in
+    let l = c.loop-claim in
+    let f = went _ _ _ _ l.cursor _ _ l.invariant.1 c.next_claim.ensures c.in-Claims.is in
     let m : MemoryMap = map_of l.starts l.ends l.kinds l.held in
     let r : Registered = left g.result g.new.starts g.new.ends g.new.kinds in
     let e : r ≡ registered 4096 m f.0 = g.ensures ∙ ap (registered 4096 m) (claim_back _ _ f.1) in
@@ -33,21 +30,15 @@ returns-in_default c =
 
 pub loop-claim-smaller-in-Claims : goal.loop-claim-smaller-in-Claims
 loop-claim-smaller-in-Claims c =
-    let k = c in
-    let w = k in
-    let n = w in
-    let l = n.loop-claim in
-    let f = went _ _ _ _ l.cursor _ _ l.invariant.1 n.next_claim.ensures w.in-Claims.is in
+    let l = c.loop-claim in
+    let f = went _ _ _ _ l.cursor _ _ l.invariant.1 c.next_claim.ensures c.in-Claims.is in
     shorter _ _ _ f.2
 
 pub loop-claim-preserved-in-Claims : goal.loop-claim-preserved-in-Claims
 loop-claim-preserved-in-Claims c =
-    let k = c in
-    let g = k.register_in-r in
-    let w = k in
-    let n = w in
-    let l = n.loop-claim in
-    let f = went _ _ _ _ l.cursor _ _ l.invariant.1 n.next_claim.ensures w.in-Claims.is in
+    let g = c.register_in-r in
+    let l = c.loop-claim in
+    let f = went _ _ _ _ l.cursor _ _ l.invariant.1 c.next_claim.ensures c.in-Claims.is in
     let m : MemoryMap = map_of l.starts l.ends l.kinds l.held in
     let r : Registered = left g.result g.new.starts g.new.ends g.new.kinds in
     let e : r ≡ registered 4096 m f.0 = g.ensures ∙ ap (registered 4096 m) (claim_back _ _ f.1) in (
@@ -58,23 +49,18 @@ loop-claim-preserved-in-Claims c =
 
 pub loop-claim-smaller : goal.loop-claim-smaller
 loop-claim-smaller c =
-    let w = c in
-    let n = w in
-    let l = n.loop-claim in
-    let f = went _ _ _ _ l.cursor _ _ l.invariant.1 n.next_claim.ensures w.in-On.is in
+    let l = c.loop-claim in
+    let f = went _ _ _ _ l.cursor _ _ l.invariant.1 c.next_claim.ensures c.in-On.is in
     shorter _ _ _ f.0
 
 pub loop-claim-preserved : goal.loop-claim-preserved
 loop-claim-preserved c =
-    let w = c in
-    let n = w in
-    let l = n.loop-claim in
-    let f = went _ _ _ _ l.cursor _ _ l.invariant.1 n.next_claim.ensures w.in-On.is in
+    let l = c.loop-claim in
+    let f = went _ _ _ _ l.cursor _ _ l.invariant.1 c.next_claim.ensures c.in-On.is in
     (l.invariant.0, f.1, sym (take_over 4096 _ _ _ f.0) ∙ l.invariant.2)
 
 pub returns-in-End : goal.returns-in-End
 returns-in-End c =
-    let n = c in
-    let l = n.loop-claim in
-    let f = went _ _ _ _ l.cursor _ _ l.invariant.1 n.next_claim.ensures c.in-End.is in
+    let l = c.loop-claim in
+    let f = went _ _ _ _ l.cursor _ _ l.invariant.1 c.next_claim.ensures c.in-End.is in
     sym (take_end 4096 _ _ f) ∙ l.invariant.2

@@ -23,23 +23,20 @@ returns-in-BadStructure c =
 
 pub returns-in-UnreadableReg : goal.returns-in-UnreadableReg
 returns-in-UnreadableReg c =
-    let w = c in
     c.refused-in-UnreadableReg.ensures ∙ sym (call_tree 4096 _ _ _ _ _ _
-    (sym w.in-Tree.is ∙ w.open_tree.ensures)
-    w.part-structure.ensures w.part-strings.ensures UnreadableReg (sym c.in-UnreadableReg.is ∙ w.judge.ensures))
+    (sym c.in-Tree.is ∙ c.open_tree.ensures)
+    c.part-structure.ensures c.part-strings.ensures UnreadableReg (sym c.in-UnreadableReg.is ∙ c.judge.ensures))
 
 pub returns-in-UnreadableRanges : goal.returns-in-UnreadableRanges
 returns-in-UnreadableRanges c =
-    let w = c in
     c.refused-in-UnreadableRanges.ensures ∙ sym (call_tree 4096 _ _ _ _ _ _
-    (sym w.in-Tree.is ∙ w.open_tree.ensures)
-    w.part-structure.ensures w.part-strings.ensures UnreadableRanges (sym c.in-UnreadableRanges.is ∙ w.judge.ensures))
+    (sym c.in-Tree.is ∙ c.open_tree.ensures)
+    c.part-structure.ensures c.part-strings.ensures UnreadableRanges (sym c.in-UnreadableRanges.is ∙ c.judge.ensures))
 
 pub returns-in-Sound : goal.returns-in-Sound
 returns-in-Sound c =
-    let w = c in
     c.register_judged.ensures
     ∙ rw c.reservation_block-block.ensures
     (sym (call_tree 4096 _ _ _ _ _ _
-    (sym w.in-Tree.is ∙ w.open_tree.ensures)
-    w.part-structure.ensures w.part-strings.ensures Sound (sym c.in-Sound.is ∙ w.judge.ensures)))
+    (sym c.in-Tree.is ∙ c.open_tree.ensures)
+    c.part-structure.ensures c.part-strings.ensures Sound (sym c.in-Sound.is ∙ c.judge.ensures)))

@@ -11,29 +11,24 @@ overflow_add-q c =
 
 pub returns-then-is_step : goal.returns-then-is_step
 returns-then-is_step c =
-    let k = c in
-    let w = subst (KidIs _ _ _) c.in-Node.is k.next_kid.ensures in
-    (_, k.loop-q.invariant ∙ find_here _ _ _ _ _ _ _ w _ c.part.ensures (sym c.is_step.ensures ∙ c.if-is_step.true))
+    let w = subst (KidIs _ _ _) c.in-Node.is c.next_kid.ensures in
+    (_, c.loop-q.invariant ∙ find_here _ _ _ _ _ _ _ w _ c.part.ensures (sym c.is_step.ensures ∙ c.if-is_step.true))
 
 pub loop-q-smaller : goal.loop-q-smaller
 loop-q-smaller c =
-    let k = c in
-    let w = subst (KidIs _ _ _) c.in-Node.is k.next_kid.ensures in
+    let w = subst (KidIs _ _ _) c.in-Node.is c.next_kid.ensures in
     nearer w c.skip-at.ensures
 
 pub loop-q-preserved : goal.loop-q-preserved
 loop-q-preserved c =
-    let k = c in
-    let w = subst (KidIs _ _ _) c.in-Node.is k.next_kid.ensures in
-    k.loop-q.invariant ∙
+    let w = subst (KidIs _ _ _) c.in-Node.is c.next_kid.ensures in
+    c.loop-q.invariant ∙
     find_next _ _ _ _ _ _ _ w _ c.part.ensures _ (sym c.is_step.ensures ∙ c.if-is_step.false) c.skip-at.ensures
 
 pub returns-in-End : goal.returns-in-End
 returns-in-End c =
-    let k = c in
-    k.loop-q.invariant ∙ find_end _ _ _ _ _ (subst (KidIs _ _ _) c.in-End.is k.next_kid.ensures)
+    c.loop-q.invariant ∙ find_end _ _ _ _ _ (subst (KidIs _ _ _) c.in-End.is c.next_kid.ensures)
 
 pub returns-in-Stuck : goal.returns-in-Stuck
 returns-in-Stuck c =
-    let k = c in
-    k.loop-q.invariant ∙ find_stuck _ _ _ _ (subst (KidIs _ _ _) c.in-Stuck.is k.next_kid.ensures)
+    c.loop-q.invariant ∙ find_stuck _ _ _ _ (subst (KidIs _ _ _) c.in-Stuck.is c.next_kid.ensures)

@@ -8,6 +8,5 @@ returns-then-same c = match_whole _ _ (sym c.same.ensures ∙ c.if-same.true)
 
 pub returns : goal.returns
 returns c =
-    let d = c in
     c.same-2.ensures ∙
-    match_part _ _ _ _ (sym d.same.ensures ∙ d.if-same.false) c.byte_from-unit.ensures.is c.part.ensures
+    match_part _ _ _ _ (sym c.same.ensures ∙ c.if-same.false) c.byte_from-unit.ensures.is c.part.ensures

@@ -14,46 +14,37 @@ returns-then-path-ne47 c = path_relative _ _ _ c.if-path-eq0.false c.if-path-ne4
 
 pub returns-then-path-eq1 : goal.returns-then-path-eq1
 returns-then-path-eq1 c =
-    let o = c in
-    path_root _ _ _ o.if-path-eq0.false c.if-path-ne47.false _ (sym o.kid_from.ensures ∙ o.in-At.is) c.if-path-eq1.true
+    path_root _ _ _ c.if-path-eq0.false c.if-path-ne47.false _ (sym c.kid_from.ensures ∙ c.in-At.is) c.if-path-eq1.true
 
 pub loop-i-init : goal.loop-i-init
 loop-i-init c =
-    let o = c in
-    goes_from _ _ _ _ o.if-path-eq0.false
-    (path_steps _ _ _ o.if-path-eq0.false c.if-path-ne47.false _ (sym o.kid_from.ensures ∙ o.in-At.is) c.if-path-eq1.false)
+    goes_from _ _ _ _ c.if-path-eq0.false
+    (path_steps _ _ _ c.if-path-eq0.false c.if-path-ne47.false _ (sym c.kid_from.ensures ∙ c.in-At.is) c.if-path-eq1.false)
 
 pub returns-then-end-i : goal.returns-then-end-i
 returns-then-end-i c =
-    let k = c in
-    let l = k.loop-i in
-    sym (l.invariant.same ∙ step_empty _ _ _ _ _ _ _ k.byte_from-end.ensures.is c.if-end-i.true)
+    let l = c.loop-i in
+    sym (l.invariant.same ∙ step_empty _ _ _ _ _ _ _ c.byte_from-end.ensures.is c.if-end-i.true)
 
 pub returns-in_default-subnode : goal.returns-in_default-subnode
 returns-in_default-subnode c =
-    let t = c in
-    let k = t in
-    let l = k.loop-i in
+    let l = c.loop-i in
     sym
     (l.invariant.same ∙
-    step_none _ _ _ _ _ _ _ k.byte_from-end.ensures.is t.if-end-i.false (k.byte_from-end.ensures.upto l.invariant.within) _ t.part.ensures _ t.subnode.ensures c.in_default-subnode.is)
+    step_none _ _ _ _ _ _ _ c.byte_from-end.ensures.is c.if-end-i.false (c.byte_from-end.ensures.upto l.invariant.within) _ c.part.ensures _ c.subnode.ensures c.in_default-subnode.is)
 
 pub returns-then-path-end : goal.returns-then-path-end
 returns-then-path-end c =
-    let t = c in
-    let k = t in
-    let l = k.loop-i in
+    let l = c.loop-i in
     sym
     (l.invariant.same ∙
-    step_last _ _ _ _ _ _ _ k.byte_from-end.ensures.is t.if-end-i.false (k.byte_from-end.ensures.upto l.invariant.within) _ t.part.ensures _ t.subnode.ensures _ c.in-At-subnode.is c.if-path-end.true)
+    step_last _ _ _ _ _ _ _ c.byte_from-end.ensures.is c.if-end-i.false (c.byte_from-end.ensures.upto l.invariant.within) _ c.part.ensures _ c.subnode.ensures _ c.in-At-subnode.is c.if-path-end.true)
 
 pub loop-i-smaller : goal.loop-i-smaller
 loop-i-smaller c = let h = c.if-end-i.false in omega arith
 
 pub loop-i-preserved : goal.loop-i-preserved
 loop-i-preserved c =
-    let t = c in
-    let k = t in
-    let l = k.loop-i in
-    goes_on _ _ l.invariant t.if-end-i.false c.if-path-end.false
-    (step_more _ _ _ _ _ _ _ k.byte_from-end.ensures.is t.if-end-i.false (k.byte_from-end.ensures.upto l.invariant.within) _ t.part.ensures _ t.subnode.ensures _ c.in-At-subnode.is c.if-path-end.false)
+    let l = c.loop-i in
+    goes_on _ _ l.invariant c.if-end-i.false c.if-path-end.false
+    (step_more _ _ _ _ _ _ _ c.byte_from-end.ensures.is c.if-end-i.false (c.byte_from-end.ensures.upto l.invariant.within) _ c.part.ensures _ c.subnode.ensures _ c.in-At-subnode.is c.if-path-end.false)

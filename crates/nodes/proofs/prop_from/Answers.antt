@@ -22,19 +22,17 @@ overflow_add-result c =
 
 pub returns-then-same : goal.returns-then-same
 returns-then-same c =
-    let k = c in
     sym
-    (k.loop-next.invariant ∙
-    look_hit _ _ _ _ _ _ _ _ _ k.token_at.ensures c.in-Prop.is _ c.part.ensures (sym c.same.ensures ∙ c.if-same.true))
+    (c.loop-next.invariant ∙
+    look_hit _ _ _ _ _ _ _ _ _ c.token_at.ensures c.in-Prop.is _ c.part.ensures (sym c.same.ensures ∙ c.if-same.true))
 
 pub loop-next-smaller : goal.loop-next-smaller
 loop-next-smaller c = falls _ _ _ c.token_at.ensures c.in-Prop.is
 
 pub loop-next-preserved : goal.loop-next-preserved
 loop-next-preserved c =
-    let k = c in
-    k.loop-next.invariant ∙
-    look_miss _ _ _ _ _ _ _ _ _ k.token_at.ensures c.in-Prop.is _ c.part.ensures (sym c.same.ensures ∙ c.if-same.false)
+    c.loop-next.invariant ∙
+    look_miss _ _ _ _ _ _ _ _ _ c.token_at.ensures c.in-Prop.is _ c.part.ensures (sym c.same.ensures ∙ c.if-same.false)
 
 pub returns-in-Begin : goal.returns-in-Begin
 returns-in-Begin c = sym (c.loop-next.invariant ∙ look_step _ _ _ _ c.token_at.ensures c.in-Begin.is)

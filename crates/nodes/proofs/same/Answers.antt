@@ -6,17 +6,12 @@ returns-then-a-b c = differ_length _ _ c.if-a-b.true
 
 pub returns-then-a-i : goal.returns-then-a-i
 returns-then-a-i c =
-    let w = c in
-    let l = w in
-    differ_at _ _ l.loop-i.i l.if-a-b.false l.loop-i.invariant w.loop-i-test.true c.if-a-i.true
+    differ_at _ _ c.loop-i.i c.if-a-b.false c.loop-i.invariant c.loop-i-test.true c.if-a-i.true
 
 pub loop-i-preserved : goal.loop-i-preserved
 loop-i-preserved c =
-    let w = c in
-    let l = w in
-    agree_at _ _ l.loop-i.i l.if-a-b.false l.loop-i.invariant w.loop-i-test.true c.if-a-i.false
+    agree_at _ _ c.loop-i.i c.if-a-b.false c.loop-i.invariant c.loop-i-test.true c.if-a-i.false
 
 pub returns : goal.returns
 returns c =
-    let l = c in
-    agree_all _ _ l.loop-i.i l.if-a-b.false l.loop-i.invariant c.loop-i-test.false
+    agree_all _ _ c.loop-i.i c.if-a-b.false c.loop-i.invariant c.loop-i-test.false

@@ -11,13 +11,11 @@ returns-in_default c = rw (← c.content_of.ensures, c.in_default.is)
 pub returns-in-Is : goal.returns-in-Is
 unfolding child_at
 returns-in-Is c =
-    let k = c in
-    rw (← k.content_of.ensures, k.in-At.is)
-    (ap placed (sym c.in-Is.is) ∙ child_found _ _ _ _ k.child_from.result k.child_from.ensures)
+    rw (← c.content_of.ensures, c.in-At.is)
+    (ap placed (sym c.in-Is.is) ∙ child_found _ _ _ _ c.child_from.result c.child_from.ensures)
 
 pub returns-in-Absent : goal.returns-in-Absent
 unfolding child_at
 returns-in-Absent c =
-    let k = c in
-    rw (← k.content_of.ensures, k.in-At.is)
-    (ap placed (sym c.in-Absent.is) ∙ child_found _ _ _ _ k.child_from.result k.child_from.ensures)
+    rw (← c.content_of.ensures, c.in-At.is)
+    (ap placed (sym c.in-Absent.is) ∙ child_found _ _ _ _ c.child_from.result c.child_from.ensures)

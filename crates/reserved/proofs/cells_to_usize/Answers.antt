@@ -10,16 +10,14 @@ returns-then-bytes-lt4 c = number_short _ _ _ (cell_one _ c.if-cells-eq1.true) c
 
 pub returns-then-cells-eq1 : goal.returns-then-cells-eq1
 returns-then-cells-eq1 c =
-    let d = c in
-    number_is _ _ _ (cell_one _ d.if-cells-eq1.true) (λ z. omega arith) d.if-bytes-lt4.false _ c.be32.ensures.is
+    number_is _ _ _ (cell_one _ c.if-cells-eq1.true) (λ z. omega arith) c.if-bytes-lt4.false _ c.be32.ensures.is
 
 pub returns-then-bytes-lt8 : goal.returns-then-bytes-lt8
 returns-then-bytes-lt8 c = number_short _ _ _ (cell_two _ c.if-cells-eq2.true) c.if-bytes-lt8.true
 
 pub returns-then-cells-eq2 : goal.returns-then-cells-eq2
 returns-then-cells-eq2 c =
-    let d = c in
-    number_is _ _ _ (cell_two _ d.if-cells-eq2.true) (λ z. omega arith) d.if-bytes-lt8.false _ c.be64.ensures.is
+    number_is _ _ _ (cell_two _ c.if-cells-eq2.true) (λ z. omega arith) c.if-bytes-lt8.false _ c.be64.ensures.is
 
 pub returns : goal.returns
 returns c = number_none _ _ _ (cell_other _ c.if-cells-eq1.false c.if-cells-eq2.false) refl

@@ -4,9 +4,7 @@ use Rattle.reserved.proofs.reserved_memory_node_is_available.Goals as goal
 
 pub returns-in-Here : goal.returns-in-Here
 returns-in-Here c =
-    let p = c in
-    let k = p in
-    status_here _ _ _ _ k.getprop.ensures _ _ _ _ k.in-Here.is p.part.ensures c.same.ensures
+    status_here _ _ _ _ c.getprop.ensures _ _ _ _ c.in-Here.is c.part.ensures c.same.ensures
 
 pub returns-in-Missing : goal.returns-in-Missing
 returns-in-Missing c = status_missing _ _ _ _ c.getprop.ensures c.in-Missing.is

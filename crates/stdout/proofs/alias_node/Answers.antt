@@ -6,22 +6,13 @@ use Rattle.stdout.proofs.alias_node.Goals as goal
 
 pub returns-in_default : goal.returns-in_default
 returns-in_default c =
-    let s = c in
-    string_nowhere _ _ _ s.requires _ _ _ s.subnode.ensures aliased c.in_default.is
+    string_nowhere _ _ _ c.requires _ _ _ c.subnode.ensures aliased c.in_default.is
 
 pub returns-in_default-string_of : goal.returns-in_default-string_of
 returns-in_default-string_of c =
-    let t = c in
-    let a = t in
-    let s = a in
-    string_missing _ _ _ s.requires _ _ _ s.subnode.ensures aliased _ a.in-At.is _ t.string_of.ensures c.in_default-string_of.is
+    string_missing _ _ _ c.requires _ _ _ c.subnode.ensures aliased _ c.in-At.is _ c.string_of.ensures c.in_default-string_of.is
 
 pub returns : goal.returns
 returns c =
-    let p = c in
-    let h = p in
-    let t = h in
-    let a = t in
-    let s = a in
     c.path_offset.ensures ∙ path_head _ _ _ ∙
-    string_here _ _ _ s.requires _ _ _ s.subnode.ensures aliased _ a.in-At.is _ t.string_of.ensures _ _ _ h.in-Here.is p.part.ensures
+    string_here _ _ _ c.requires _ _ _ c.subnode.ensures aliased _ c.in-At.is _ c.string_of.ensures _ _ _ c.in-Here.is c.part.ensures

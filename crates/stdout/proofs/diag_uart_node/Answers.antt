@@ -10,34 +10,19 @@ returns-in_default c = stdout_rootless _ _ _ c.path_offset.ensures c.in_default.
 pub returns-in_default-subnode : goal.returns-in_default-subnode
 unfolding stdout_in
 returns-in_default-subnode c =
-    let s = c in
-    let r = s in
-    string_nowhere _ _ _ (root_is _ _ _ r.path_offset.ensures _ r.in-At.is) _ _ _ s.subnode.ensures stdout_by c.in_default-subnode.is
+    string_nowhere _ _ _ (root_is _ _ _ c.path_offset.ensures _ c.in-At.is) _ _ _ c.subnode.ensures stdout_by c.in_default-subnode.is
 
 pub returns-in_default-string_of : goal.returns-in_default-string_of
 unfolding stdout_in
 returns-in_default-string_of c =
-    let t = c in
-    let a = t in
-    let s = a in
-    let r = s in
-    string_missing _ _ _ (root_is _ _ _ r.path_offset.ensures _ r.in-At.is) _ _ _ s.subnode.ensures stdout_by _ a.in-At-subnode.is _ t.string_of.ensures c.in_default-string_of.is
+    string_missing _ _ _ (root_is _ _ _ c.path_offset.ensures _ c.in-At.is) _ _ _ c.subnode.ensures stdout_by _ c.in-At-subnode.is _ c.string_of.ensures c.in_default-string_of.is
 
 pub node_named-requires : goal.node_named-requires
 node_named-requires c =
-    let h = c in
-    let a = h in
-    let r = a in
-    root_is _ _ _ r.path_offset.ensures _ r.in-At.is
+    root_is _ _ _ c.path_offset.ensures _ c.in-At.is
 
 pub returns : goal.returns
 unfolding stdout_in
 returns c =
-    let b = c in
-    let h = b in
-    let t = h in
-    let a = t in
-    let s = a in
-    let r = s in
-    c.node_named.ensures ∙ stdout_named _ _ _ _ b.byte_from-colon.ensures c.part.ensures ∙
-    string_here _ _ _ (root_is _ _ _ r.path_offset.ensures _ r.in-At.is) _ _ _ s.subnode.ensures stdout_by _ a.in-At-subnode.is _ t.string_of.ensures _ _ _ h.in-Here.is b.part-value.ensures
+    c.node_named.ensures ∙ stdout_named _ _ _ _ c.byte_from-colon.ensures c.part.ensures ∙
+    string_here _ _ _ (root_is _ _ _ c.path_offset.ensures _ c.in-At.is) _ _ _ c.subnode.ensures stdout_by _ c.in-At-subnode.is _ c.string_of.ensures _ _ _ c.in-Here.is c.part-value.ensures

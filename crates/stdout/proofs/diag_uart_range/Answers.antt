@@ -9,24 +9,14 @@ returns-in_default c = uart_nowhere _ _ _ c.diag_uart_node.ensures c.in_default.
 
 pub returns-in_default-getprop : goal.returns-in_default-getprop
 returns-in_default-getprop c =
-    let p = c in
-    let u = p in
-    uart_incompatible _ _ _ u.diag_uart_node.ensures _ u.in-At.is _ p.getprop.ensures c.in_default-getprop.is
+    uart_incompatible _ _ _ c.diag_uart_node.ensures _ c.in-At.is _ c.getprop.ensures c.in_default-getprop.is
 
 pub returns-in-Found : goal.returns-in-Found
 returns-in-Found c =
-    let t = c in
-    let i = t in
-    let p = i in
-    let u = p in
     ap uart_at (sym c.in-Found.is) ∙
-    uart_translated _ _ _ u.diag_uart_node.ensures _ u.in-At.is _ p.getprop.ensures _ _ _ i.in-Here.is t.translate_mmio_address.ensures
+    uart_translated _ _ _ c.diag_uart_node.ensures _ c.in-At.is _ c.getprop.ensures _ _ _ c.in-Here.is c.translate_mmio_address.ensures
 
 pub returns-in-NoAddress : goal.returns-in-NoAddress
 returns-in-NoAddress c =
-    let t = c in
-    let i = t in
-    let p = i in
-    let u = p in
     ap uart_at (sym c.in-NoAddress.is) ∙
-    uart_translated _ _ _ u.diag_uart_node.ensures _ u.in-At.is _ p.getprop.ensures _ _ _ i.in-Here.is t.translate_mmio_address.ensures
+    uart_translated _ _ _ c.diag_uart_node.ensures _ c.in-At.is _ c.getprop.ensures _ _ _ c.in-Here.is c.translate_mmio_address.ensures

@@ -11,13 +11,11 @@ loop-i-init c = sought_all _ _
 
 pub returns-then-same : goal.returns-then-same
 returns-then-same c =
-    let s = c in
-    sought_here _ _ _ s.loop-i.invariant _ _ s.part.ensures s.same.ensures c.if-same.true
+    sought_here _ _ _ c.loop-i.invariant _ _ c.part.ensures c.same.ensures c.if-same.true
 
 pub loop-i-preserved : goal.loop-i-preserved
 loop-i-preserved c =
-    let s = c in
-    sought_on _ _ _ s.loop-i.invariant _ _ s.part.ensures s.same.ensures c.if-same.false
+    sought_on _ _ _ c.loop-i.invariant _ _ c.part.ensures c.same.ensures c.if-same.false
 
 pub returns : goal.returns
 returns c = sought_nowhere _ _ _ c.loop-i.invariant (omega arith) (omega arith)

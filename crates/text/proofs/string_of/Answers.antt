@@ -9,13 +9,9 @@ returns-in_default c = rw (← c.getprop.ensures, c.in_default.is)
 pub returns-in-Ends : goal.returns-in-Ends
 unfolding string_at
 returns-in-Ends c =
-    let t = c in
-    let g = t in
-    rw (← g.getprop.ensures, g.in-Here.is, ← t.part.ensures, ← t.text.ensures, c.in-Ends.is)
+    rw (← c.getprop.ensures, c.in-Here.is, ← c.part.ensures, ← c.text.ensures, c.in-Ends.is)
 
 pub returns-in-Endless : goal.returns-in-Endless
 unfolding string_at
 returns-in-Endless c =
-    let t = c in
-    let g = t in
-    rw (← g.getprop.ensures, g.in-Here.is, ← t.part.ensures, ← t.text.ensures, c.in-Endless.is)
+    rw (← c.getprop.ensures, c.in-Here.is, ← c.part.ensures, ← c.text.ensures, c.in-Endless.is)

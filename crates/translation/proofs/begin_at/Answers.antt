@@ -8,26 +8,16 @@ returns-in-Given c = rw c.in-Given.is
 
 pub returns-in-RegAt : goal.returns-in-RegAt
 returns-in-RegAt c =
-    let r = c in
-    let p = r in
-    let g = p in
-    begins_row _ _ _ _ _ _ _ g.in-FirstReg.is _ g.getprop.ensures _ _ _ _ _ g.in-Here.is p.part.ensures r.reg_row.ensures c.in-RegAt.is
+    begins_row _ _ _ _ _ _ _ c.in-FirstReg.is _ c.getprop.ensures _ _ _ _ _ c.in-Here.is c.part.ensures c.reg_row.ensures c.in-RegAt.is
 
 pub returns-in-PastReg : goal.returns-in-PastReg
 returns-in-PastReg c =
-    let r = c in
-    let p = r in
-    let g = p in
-    begins_row _ _ _ _ _ _ _ g.in-FirstReg.is _ g.getprop.ensures _ _ _ _ _ g.in-Here.is p.part.ensures r.reg_row.ensures c.in-PastReg.is
+    begins_row _ _ _ _ _ _ _ c.in-FirstReg.is _ c.getprop.ensures _ _ _ _ _ c.in-Here.is c.part.ensures c.reg_row.ensures c.in-PastReg.is
 
 pub returns-in-NoReg : goal.returns-in-NoReg
 returns-in-NoReg c =
-    let r = c in
-    let p = r in
-    let g = p in
-    begins_row _ _ _ _ _ _ _ g.in-FirstReg.is _ g.getprop.ensures _ _ _ _ _ g.in-Here.is p.part.ensures r.reg_row.ensures c.in-NoReg.is
+    begins_row _ _ _ _ _ _ _ c.in-FirstReg.is _ c.getprop.ensures _ _ _ _ _ c.in-Here.is c.part.ensures c.reg_row.ensures c.in-NoReg.is
 
 pub returns-in-Missing : goal.returns-in-Missing
 returns-in-Missing c =
-    let g = c in
-    begins_not _ _ _ _ _ _ _ g.in-FirstReg.is _ g.getprop.ensures c.in-Missing.is
+    begins_not _ _ _ _ _ _ _ c.in-FirstReg.is _ c.getprop.ensures c.in-Missing.is

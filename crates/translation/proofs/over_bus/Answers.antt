@@ -5,9 +5,7 @@ use Rattle.translation.proofs.over_bus.Goals as goal
 
 pub returns-in-Here : goal.returns-in-Here
 returns-in-Here c =
-    let p = c in
-    let g = p in
-    over_here _ _ _ _ _ _ _ g.getprop.ensures _ _ _ _ _ _ g.in-Here.is p.part-ranges.ensures c.address_cells-own.ensures c.size_cells-length.ensures c.translate_bus_address.ensures
+    over_here _ _ _ _ _ _ _ c.getprop.ensures _ _ _ _ _ _ c.in-Here.is c.part-ranges.ensures c.address_cells-own.ensures c.size_cells-length.ensures c.translate_bus_address.ensures
 
 pub returns-in-Missing : goal.returns-in-Missing
 returns-in-Missing c = over_not _ _ _ _ _ _ _ c.getprop.ensures c.in-Missing.is

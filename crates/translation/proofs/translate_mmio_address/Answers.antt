@@ -11,7 +11,4 @@ translate_from_children-requires c = root_begins _ c.first_subnode-first.ensures
 
 pub returns : goal.returns
 returns c =
-    let z = c in
-    let f = z in
-    let g = f in
-    from_root _ _ _ _ _ g.path_offset.ensures _ g.in-At.is _ f.first_subnode-first.ensures _ _ _ _ z.address_cells-address.ensures z.size_cells-size.ensures c.translate_from_children.ensures c.finish.ensures
+    from_root _ _ _ _ _ c.path_offset.ensures _ c.in-At.is _ c.first_subnode-first.ensures _ _ _ _ c.address_cells-address.ensures c.size_cells-size.ensures c.translate_from_children.ensures c.finish.ensures

@@ -5,18 +5,15 @@ use Rattle.translation.proofs.up_through.Goals as goal
 
 pub returns-in-To : goal.returns-in-To
 returns-in-To c =
-    let k = c in
-    up_gone _ _ _ _ _ _ _ k.in-Gone.is k.over_bus.ensures c.in-To.is
+    up_gone _ _ _ _ _ _ _ c.in-Gone.is c.over_bus.ensures c.in-To.is
 
 pub returns-in-Nowhere : goal.returns-in-Nowhere
 returns-in-Nowhere c =
-    let k = c in
-    up_gone _ _ _ _ _ _ _ k.in-Gone.is k.over_bus.ensures c.in-Nowhere.is
+    up_gone _ _ _ _ _ _ _ c.in-Gone.is c.over_bus.ensures c.in-Nowhere.is
 
 pub returns-in-Unreadable : goal.returns-in-Unreadable
 returns-in-Unreadable c =
-    let k = c in
-    up_gone _ _ _ _ _ _ _ k.in-Gone.is k.over_bus.ensures c.in-Unreadable.is
+    up_gone _ _ _ _ _ _ _ c.in-Gone.is c.over_bus.ensures c.in-Unreadable.is
 
 pub returns-in-On : goal.returns-in-On
 returns-in-On c = rw c.in-On.is

@@ -7,21 +7,17 @@ use Rattle.visit.proofs.child_step.Goals as goal
 
 pub overflow_add-row : goal.overflow_add-row
 overflow_add-row c =
-    let k = c in
-    omega (arith, row_inside _ _ _ _ _ _ _ _ k.part-entries.ensures (sym k.reg_row.ensures ∙ c.in-RegAt.is))
+    omega (arith, row_inside _ _ _ _ _ _ _ _ c.part-entries.ensures (sym c.reg_row.ensures ∙ c.in-RegAt.is))
 
 pub returns-in-RegAt : goal.returns-in-RegAt
 returns-in-RegAt c =
-    let k = c in
     rw c.with_row.ensures at c.region_step.ensures
-    ∙ row_is _ _ _ _ _ _ _ _ k.part-entries.ensures k.reg_row.ensures c.in-RegAt.is
+    ∙ row_is _ _ _ _ _ _ _ _ c.part-entries.ensures c.reg_row.ensures c.in-RegAt.is
 
 pub returns-in-PastReg : goal.returns-in-PastReg
 returns-in-PastReg c =
-    let k = c in
-    ap On c.next_child.ensures ∙ row_is _ _ _ _ _ _ _ _ k.part-entries.ensures k.reg_row.ensures c.in-PastReg.is
+    ap On c.next_child.ensures ∙ row_is _ _ _ _ _ _ _ _ c.part-entries.ensures c.reg_row.ensures c.in-PastReg.is
 
 pub returns-in-NoReg : goal.returns-in-NoReg
 returns-in-NoReg c =
-    let k = c in
-    ap On c.next_child-in-NoReg.ensures ∙ row_is _ _ _ _ _ _ _ _ k.part-entries.ensures k.reg_row.ensures c.in-NoReg.is
+    ap On c.next_child-in-NoReg.ensures ∙ row_is _ _ _ _ _ _ _ _ c.part-entries.ensures c.reg_row.ensures c.in-NoReg.is

@@ -4,8 +4,7 @@ use Rattle.visit.proofs.region_step.Goals as goal
 
 pub returns-in-To : goal.returns-in-To
 returns-in-To c =
-    let k = c in
-    rw c.kind.ensures (lies _ _ _ _ k.part.ensures _ _ _ _ _ _ _ _ k.lands.ensures c.in-To.is)
+    rw c.kind.ensures (lies _ _ _ _ c.part.ensures _ _ _ _ _ _ _ _ c.lands.ensures c.in-To.is)
 
 pub returns-in-Nowhere : goal.returns-in-Nowhere
 returns-in-Nowhere c = lies _ _ _ _ c.part.ensures _ _ _ _ _ _ _ _ c.lands.ensures c.in-Nowhere.is

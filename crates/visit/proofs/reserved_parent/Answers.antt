@@ -8,19 +8,14 @@ returns-in_default c = rootless _ _ _ c.path_offset.ensures c.in_default.is Rese
 
 pub returns-in_default-subnode : goal.returns-in_default-subnode
 returns-in_default-subnode c =
-    let k = c in
-    reserved_is _ _ _ k.path_offset.ensures _ k.in-At.is _ _ c.in_default-subnode.is c.subnode.ensures
+    reserved_is _ _ _ c.path_offset.ensures _ c.in-At.is _ _ c.in_default-subnode.is c.subnode.ensures
 
 pub returns-then-children_count : goal.returns-then-children_count
 returns-then-children_count c =
-    let k = c in
-    let r = k in
     rw (← c.children_count.ensures, c.if-children_count.true) at
-    (reserved_is _ _ _ r.path_offset.ensures _ r.in-At.is _ _ k.in-At-subnode.is k.subnode.ensures)
+    (reserved_is _ _ _ c.path_offset.ensures _ c.in-At.is _ _ c.in-At-subnode.is c.subnode.ensures)
 
 pub returns : goal.returns
 returns c =
-    let k = c in
-    let r = k in
     rw (← c.children_count.ensures, c.if-children_count.false) at
-    (reserved_is _ _ _ r.path_offset.ensures _ r.in-At.is _ _ k.in-At-subnode.is k.subnode.ensures)
+    (reserved_is _ _ _ c.path_offset.ensures _ c.in-At.is _ _ c.in-At-subnode.is c.subnode.ensures)

@@ -14,16 +14,13 @@ overflow_add-row c = omega (arith, entry_inside _ _ _ (sym c.reserved_entry.ensu
 
 pub returns-then-entry-eq0 : goal.returns-then-entry-eq0
 returns-then-entry-eq0 c =
-    let k = c in
-    entry_gives _ _ _ _ _ _ _ k.reserved_entry.ensures _ k.in-Entry.is _ (block_empty _ c.if-entry-eq0.true) c.with_row-next.ensures
+    entry_gives _ _ _ _ _ _ _ c.reserved_entry.ensures _ c.in-Entry.is _ (block_empty _ c.if-entry-eq0.true) c.with_row-next.ensures
 
 pub returns-then-entry : goal.returns-then-entry
 returns-then-entry c =
-    let k = c in
-    entry_gives _ _ _ _ _ _ _ k.reserved_entry.ensures _ k.in-Entry.is _ (block_far _ c.if-entry.true) c.with_row-next.ensures
+    entry_gives _ _ _ _ _ _ _ c.reserved_entry.ensures _ c.in-Entry.is _ (block_far _ c.if-entry.true) c.with_row-next.ensures
 
 pub returns : goal.returns
 returns c =
-    let k = c in
-    entry_gives _ _ _ _ _ _ _ k.reserved_entry.ensures _ k.in-Entry.is _ (block_near _ c.if-entry-eq0.false c.if-entry.false)
+    entry_gives _ _ _ _ _ _ _ c.reserved_entry.ensures _ c.in-Entry.is _ (block_near _ c.if-entry-eq0.false c.if-entry.false)
     c.with_row-next.ensures

@@ -11,10 +11,8 @@ returns-then-range-offset c = bus_past _ _ _ c.if-address-range.false c.if-range
 
 pub returns-then-range-offset-2 : goal.returns-then-range-offset-2
 returns-then-range-offset-2 c =
-    let k = c in
-    bus_long _ _ _ k.if-address-range.false _ c.reach_of.ensures k.if-range-offset.false c.if-range-offset-2.true
+    bus_long _ _ _ c.if-address-range.false _ c.reach_of.ensures c.if-range-offset.false c.if-range-offset-2.true
 
 pub returns : goal.returns
 returns c =
-    let k = c in
-    c.land.ensures ∙ bus_inside _ _ _ k.if-address-range.false _ c.reach_of.ensures k.if-range-offset.false c.if-range-offset-2.false
+    c.land.ensures ∙ bus_inside _ _ _ c.if-address-range.false _ c.reach_of.ensures c.if-range-offset.false c.if-range-offset-2.false

@@ -14,10 +14,8 @@ overflow_sub-last c = search rules
 
 pub returns-then-range-last : goal.returns-then-range-last
 returns-then-range-last c =
-    let k = c in
-    past _ _ _ k.if-address-range.false _ k.last_of-last.ensures c.if-range-last.true
+    past _ _ _ c.if-address-range.false _ c.last_of-last.ensures c.if-range-last.true
 
 pub returns : goal.returns
 returns c =
-    let k = c in
-    rw c.reach_of.ensures at c.land.ensures ∙ inside _ _ _ k.if-address-range.false _ k.last_of-last.ensures c.if-range-last.false
+    rw c.reach_of.ensures at c.land.ensures ∙ inside _ _ _ c.if-address-range.false _ c.last_of-last.ensures c.if-range-last.false
