@@ -1,6 +1,6 @@
 -- The reservation block that is written is read back: its entries in order, and no more. Assumes nothing.
 use mathlib.Core.Path.{◌≡◌, refl, sym, ◌∙◌, ap}
-use Prim.Native.Nat.{ℕ, zero, suc, ◌+◌, ◌*◌, ◌/◌, ◌-◌, ◌≤◌, ◌<◌}
+use Prim.Native.Nat.{ℕ, suc, ◌+◌, ◌*◌, ◌/◌, ◌<◌}
 use native.Mathlib.Omega.{arith}
 use mathlib.Core.Bool.{Bool, true, false}
 use mathlib.Core.List.{List, [], ◌∷◌, ◌++◌, append_assoc, append-nil}
@@ -10,14 +10,14 @@ use borrow.Author.Tests.{eqb-true, eqb-false}
 use Rattle.words.specs.Bytes.{double}
 use Rattle.cells.specs.declared.Region.{Region}
 use Rattle.reservations.specs.declared.Reservation.{Reservation}
-use Rattle.reservations.specs.declared.Reservation.TheVariants.{Entry, End, Past}
+use Rattle.reservations.specs.declared.Reservation.TheVariants.{Entry}
 use Rattle.reservations.specs.Reservations.{entry_of, and_then, entries_from, entries_of}
 use Rattle.reservations.proofs.EntryLaws.{entry_address, entry_size, entry_end}
 use Rattle.pen.specs.Numbers.{bytes8}
 use Rattle.flattened.specs.Blob.{entries_bytes, reservation_bytes, AllEntries}
 use Rattle.flattened.proofs.NumberLaws.{double_at}
 use Rattle.pen.proofs.LengthLaws.{bytes8_length}
-use Rattle.flattened.proofs.HeaderLaws.{reservation_length, entries_length}
+use Rattle.flattened.proofs.HeaderLaws.{entries_length}
 
 module _ (v : List ℕ) where
   -- an entry that stands after pre

@@ -1,11 +1,11 @@
 -- The parts of a tree are read as that tree, each node at its place. Assumes nothing.
-use mathlib.Core.Path.{◌≡◌, refl, sym, ◌∙◌, ap}
-use Prim.Native.Nat.{ℕ, zero, suc, ◌+◌, max}
+use mathlib.Core.Path.{◌≡◌, refl, ◌∙◌, ap}
+use Prim.Native.Nat.{ℕ, ◌+◌}
 use native.Mathlib.Omega.{arith}
 use mathlib.Core.List.{List, [], ◌∷◌}
-use Rattle.fdt.specs.Tree.{Property, Nodes, none, node, count, height, Tok, begin, ended, prop, fin, flat_p, flat_k}
+use Rattle.fdt.specs.Tree.{count, height, Tok, begin, ended, prop, flat_p, flat_k}
 use Rattle.flattened.specs.Parts.{Part, begins, property, ends, part_size, part_tok, parts_toks}
-use Rattle.flattened.specs.Forest.{NamedValue, Forest, bare, tree, prop_parts, forest_parts, tree_parts, nodes_of, levels_of, bare_p, bare_k, props_size, forest_size, placed_p, placed_k}
+use Rattle.flattened.specs.Forest.{NamedValue, Forest, bare, tree, prop_parts, forest_parts, nodes_of, levels_of, bare_p, bare_k, props_size, forest_size, placed_p, placed_k}
 
 toks_from : (p q : ℕ) (xs : List Part) → p ≡ q → parts_toks p xs ≡ parts_toks q xs
 toks_from p q xs e = ap (λ (x : ℕ). parts_toks x xs) e

@@ -1,9 +1,9 @@
 -- The header of a blob says where its blocks stand, and they stand there. Assumes nothing.
 use mathlib.Core.Path.{◌≡◌, refl, sym, ◌∙◌, ap}
-use Prim.Native.Nat.{ℕ, zero, suc, ◌+◌, ◌*◌, ◌/◌, ◌%◌, ◌-◌, ◌≤◌, ◌<◌}
+use Prim.Native.Nat.{ℕ, ◌+◌, ◌*◌, ◌-◌, ◌<◌}
 use native.Mathlib.Omega.{arith}
 use mathlib.Core.List.{List, [], ◌∷◌, ◌++◌, append_assoc}
-use lib.ListN.{length, take, drop, length-append}
+use lib.ListN.{length, length-append}
 use lib.Seq.{take-append_seam, drop_at}
 use Rattle.words.specs.Bytes.{word, part_of}
 use Rattle.words.proofs.BytesLaws.{part_is}
@@ -12,7 +12,7 @@ use Rattle.fdt.specs.Header.{magic, totalsize, off_dt_struct, off_dt_strings, of
 use Rattle.fdt.specs.Opening.{blocks_of}
 use Rattle.reservations.specs.Reservations.{block_in}
 use Rattle.reservations.proofs.BlockLaws.{whole}
-use Rattle.pen.specs.Numbers.{bytes4, bytes8}
+use Rattle.pen.specs.Numbers.{bytes4}
 use Rattle.flattened.specs.Parts.{Part, parts_bytes, names_bytes, parts_size, names_size}
 use Rattle.flattened.specs.Blob.{entries_bytes, reservation_bytes, header, structure_bytes, blocks_bytes, blob, blob_size}
 use Rattle.flattened.proofs.NumberLaws.{join32}

@@ -1,13 +1,13 @@
 -- Numbers and names put down in a list are read from it. Assumes nothing.
-use mathlib.Core.Path.{◌≡◌, refl, sym, ◌∙◌, ap}
-use Prim.Native.Nat.{ℕ, zero, suc, ◌+◌, ◌*◌, ◌/◌, ◌%◌, ◌-◌, ◌^◌, ◌≤◌, ◌<◌}
+use mathlib.Core.Path.{◌≡◌, sym, ◌∙◌, ap}
+use Prim.Native.Nat.{ℕ, ◌+◌, ◌*◌, ◌/◌, ◌%◌, ◌-◌, ◌≤◌, ◌<◌}
 use native.Mathlib.Omega.{arith}
-use mathlib.Core.List.{List, [], ◌∷◌, ◌++◌, append_assoc}
-use lib.ListN.{length, get_or, take, drop, length-append, length-replicate, get_or-append}
-use lib.Seq.{get_or-append-add, get_or-append_seam, take-append_seam, drop-append-add, take_at, drop_at}
+use mathlib.Core.List.{List, ◌∷◌, ◌++◌, append_assoc}
+use lib.ListN.{length, get_or, length-append, length-replicate, get_or-append}
+use lib.Seq.{get_or-append-add, get_or-append_seam, take-append_seam, drop_at}
 use Rattle.words.specs.Bytes.{word, double, bytes, string_end, align4}
 use Rattle.words.proofs.BytesLaws.{first_only}
-use Rattle.pen.proofs.LengthLaws.{bytes4_length, bytes8_length}
+use Rattle.pen.proofs.LengthLaws.{bytes4_length}
 use Rattle.pen.specs.Numbers.{bytes4, bytes8, padding}
 use Rattle.flattened.specs.Parts.{NoZero}
 

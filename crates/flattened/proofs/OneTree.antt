@@ -1,15 +1,14 @@
 -- The parts of a tree are those of that tree alone; and the reader's walk accepts them under all limits that the tree is within. Assumes
 -- nothing.
-use mathlib.Core.Path.{◌≡◌, refl, sym, ◌∙◌, ap, subst}
+use mathlib.Core.Path.{◌≡◌, sym, ◌∙◌, ap, subst}
 use Prim.Native.Nat.{ℕ, suc, ◌+◌, ◌≤◌}
-use native.Mathlib.Omega.{arith}
 use mathlib.Core.Bool.{false}
 use mathlib.Core.List.{List, [], ◌∷◌}
-use Rattle.fdt.specs.Tree.{Nodes, none, node, Tok, fin, flat_k, Level, levels}
+use Rattle.fdt.specs.Tree.{Nodes, none, Tok, fin, flat_k, Level, levels}
 use Rattle.fdt.specs.declared.Verdict.TheVariants.{Accepted}
 use Rattle.grammar.proofs.TreeLaws.{run_l, tree_accepted, levels_tree}
 use Rattle.flattened.specs.Parts.{Part, begins, part_size, parts_toks}
-use Rattle.flattened.specs.Forest.{NamedValue, Forest, bare, tree, tree_parts, nodes_of, levels_of, bare_k, props_size, forest_size, placed_p, placed_k}
+use Rattle.flattened.specs.Forest.{NamedValue, Forest, bare, tree, tree_parts, nodes_of, levels_of, bare_k, props_size, placed_p, placed_k}
 use Rattle.flattened.proofs.ForestLaws.{forest_toks, bare_forest, count_forest, height_forest}
 
 -- ── One tree ──

@@ -1,14 +1,13 @@
 -- The parts of a structure block are read back as they were written. Assumes nothing.
 use mathlib.Core.Path.{◌≡◌, refl, sym, ◌∙◌, ap}
-use Prim.Native.Nat.{ℕ, zero, suc, ◌+◌, ◌*◌, ◌/◌, ◌%◌, ◌-◌, ◌≤◌, ◌<◌}
+use Prim.Native.Nat.{ℕ, suc, ◌+◌, ◌*◌, ◌/◌, ◌%◌, ◌-◌, ◌<◌}
 use native.Mathlib.Omega.{arith}
 use mathlib.Core.List.{List, [], ◌∷◌, ◌++◌, append_assoc, append-nil}
 use lib.ListN.{length, length-append}
-use Rattle.words.specs.Bytes.{word, bytes, string_end, align4}
-use Rattle.fdt.specs.Token.{tok_at, prop_at}
-use Rattle.fdt.specs.Tree.{Property, Tok, begin, ended, prop, fin, taken, lex_at}
-use Rattle.fdt.specs.declared.Token.{Token}
-use Rattle.fdt.specs.declared.Token.TheVariants.{Bad, Nop, Begin, EndNode, Prop, Fin}
+use Rattle.words.specs.Bytes.{word, bytes, string_end}
+use Rattle.fdt.specs.Token.{tok_at}
+use Rattle.fdt.specs.Tree.{Tok, begin, ended, fin, lex_at}
+use Rattle.fdt.specs.declared.Token.TheVariants.{Begin, EndNode, Prop}
 use Rattle.fdt.proofs.TokLaws.{at_begin, at_end, at_prop, at_fin, prop_is}
 use Rattle.fdt.proofs.LexLaws.{lex_of}
 use Rattle.pen.specs.Numbers.{bytes4, padding}

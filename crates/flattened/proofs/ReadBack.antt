@@ -1,29 +1,28 @@
 -- THE THEOREM: the flattened form of a tree within the limits is opened, and read back as that tree with its reservations, whatever
 -- bytes follow it. And the same from the parts alone: parts that the reader's walk accepts are those of one tree. Assumes nothing.
 use mathlib.Core.Path.{◌≡◌, refl, sym, ◌∙◌, ap}
-use Prim.Native.Nat.{ℕ, zero, suc, ◌+◌, ◌≤◌, ◌<◌}
+use Prim.Native.Nat.{ℕ, suc, ◌+◌, ◌≤◌, ◌<◌}
 use native.Mathlib.Omega.{arith}
 use mathlib.Core.Bool.{false}
 use mathlib.Core.List.{List, [], ◌∷◌, ◌++◌}
 use lib.ListN.{length}
 use Rattle.cells.specs.declared.Region.{Region}
-use Rattle.fdt.specs.Header.{totalsize, structure_of, strings_of}
-use Rattle.fdt.specs.Tree.{Property, Nodes, none, node, count, height, Tok, begin, ended, prop, fin, bad, flat_p, flat_k, lex_at, tree_of, levels, top}
+use Rattle.fdt.specs.Header.{structure_of, strings_of}
+use Rattle.fdt.specs.Tree.{Property, Nodes, none, node, count, height, Tok, begin, ended, prop, fin, bad, flat_p, flat_k, lex_at, tree_of}
 use Rattle.fdt.specs.Opening.{opened_of, blocks_of}
 use Rattle.fdt.specs.declared.Opened.TheVariants.{Tree}
 use Rattle.fdt.specs.declared.Verdict.TheVariants.{Accepted}
-use Rattle.reservations.specs.Reservations.{block_in, entries_of}
-use Rattle.grammar.specs.Written.{Written}
+use Rattle.reservations.specs.Reservations.{entries_of}
 use Rattle.grammar.proofs.GrammarLaws.{block_of, tree_is}
 use Rattle.grammar.proofs.OpeningLaws.{opened_exactly}
 use Rattle.grammar.proofs.TreeLaws.{run_l, accepted_tree}
 use Rattle.reading.specs.Reads.{WrittenFor}
 use Rattle.pen.specs.Numbers.{bytes4}
 use Rattle.flattened.specs.Parts.{Part, begins, property, ends, part_size, parts_bytes, names_bytes, parts_size, names_size, part_tok, parts_toks, AllClean}
-use Rattle.flattened.specs.Blob.{structure_bytes, blob, blob_size, AllEntries}
-use Rattle.flattened.specs.Forest.{NamedValue, Forest, bare, tree, prop_parts, forest_parts, tree_parts, nodes_of, levels_of, bare_p, bare_k, props_size, forest_size, placed_p, placed_k}
+use Rattle.flattened.specs.Blob.{structure_bytes, blob, blob_size}
+use Rattle.flattened.specs.Forest.{NamedValue, Forest, bare, tree, prop_parts, forest_parts, tree_parts, nodes_of, levels_of, bare_p, bare_k, props_size, placed_p, placed_k}
 use Rattle.flattened.specs.ReadBack.{Within, ReadBack}
-use Rattle.flattened.proofs.PartLaws.{parts_lex, parts_length, names_length}
+use Rattle.flattened.proofs.PartLaws.{parts_lex, names_length}
 use Rattle.flattened.proofs.HeaderLaws.{structure_length, good, total_is, structure_block, strings_block, reservation_block}
 use Rattle.flattened.proofs.EntriesLaws.{entries_are}
 use Rattle.flattened.proofs.ForestLaws.{forest_toks, bare_forest, count_forest, height_forest}

@@ -1,5 +1,5 @@
 -- A tree without places, its parts, and the tree with places that is read back.
-use Rattle.std.specs.Prelude.{ℕ, zero, suc, ◌+◌, max, List, [], ◌∷◌}
+use Rattle.std.specs.Prelude.{ℕ, suc, ◌+◌, max, List, [], ◌∷◌}
 use Rattle.fdt.specs.Tree.{Property, Nodes, none, node}
 use Rattle.flattened.specs.Parts.{Part, begins, property, ends, part_size}
 

@@ -8,8 +8,7 @@ use native.Mathlib.Nat.{add_assoc}
 use native.Mathlib.Numerals.{add-one}
 use lib.ListN.{length, get_or, set, take, drop, length-set, length-append, length-take}
 use lib.Seq.{paste, paste-suc, paste-zero, take-paste, drop-paste, length-paste, take-length, drop-drop}
-use mathlib.Core.Bool.{Bool, true, false, not}
-use borrow.Author.Tests.{not-true, not-false}
+use mathlib.Core.Bool.{Bool, true, false}
 use Rattle.pen.specs.Writing.{Writes, Put, HasRoom}
 
 -- ── Whether there is room ──

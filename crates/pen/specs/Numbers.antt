@@ -1,5 +1,5 @@
 -- Numbers as big-endian bytes, and padding: Specification, chapter 5.
-use Rattle.std.specs.Prelude.{ℕ, ◌+◌, ◌-◌, ◌/◌, ◌%◌, List, [], ◌∷◌, ◌++◌, replicate}
+use Rattle.std.specs.Prelude.{ℕ, ◌-◌, ◌/◌, ◌%◌, List, [], ◌∷◌, ◌++◌, replicate}
 use Rattle.words.specs.Bytes.{align4}
 
 -- a number below 2^32 in four bytes, the highest first

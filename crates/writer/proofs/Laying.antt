@@ -1,17 +1,13 @@
 -- The bytes that the code puts are those of the definitions; and each call's answer. Assumes nothing.
-use mathlib.Core.Path.{◌≡◌, refl, sym, ◌∙◌, ap, subst}
-use Prim.Native.Nat.{ℕ, suc, ◌+◌, ◌*◌, ◌/◌, ◌-◌, ◌≤◌, ◌<◌}
+use mathlib.Core.Path.{◌≡◌, refl, sym, ◌∙◌, ap}
+use Prim.Native.Nat.{ℕ, suc, ◌+◌, ◌*◌, ◌/◌, ◌-◌, ◌≤◌}
 use native.Mathlib.Omega.{arith}
-use mathlib.Core.Bool.{Bool, true, false, cond}
-use mathlib.Core.List.{List, [], ◌∷◌, ◌++◌, reverse, reverse-append, append_assoc}
+use mathlib.Core.List.{List, [], ◌∷◌, ◌++◌, reverse, reverse-append}
 use lib.ListN.{length, replicate, length-append, length-replicate, length-reverse, take, drop, length-take, length-drop}
-use lib.Seq.{paste, paste-zero, length-paste}
-use lib.Dec.{eqb}
-use borrow.Author.Tests.{eq-eqb, ne_eqb}
+use lib.Seq.{paste-zero}
 use Rattle.pen.specs.Numbers.{bytes4, bytes8, padding}
-use Rattle.flattened.specs.Parts.{Part, begins, property, ends, part_size, name_size, part_bytes, name_bytes}
+use Rattle.flattened.specs.Parts.{begins, property, ends, name_size, part_bytes, name_bytes}
 use Rattle.flattened.specs.Blob.{header}
-use Rattle.flattened.proofs.PartLaws.{part_length}
 use Rattle.flattened.proofs.HeaderLaws.{header_length}
 use Rattle.pen.proofs.LengthLaws.{bytes4_length}
 use Rattle.pen.specs.Writing.{Writes, Put}
@@ -21,7 +17,7 @@ use Rattle.writer.specs.declared.Writer.{Writer}
 use Rattle.writer.specs.declared.WriteAnswer.{WriteAnswer}
 use Rattle.writer.specs.declared.WriteAnswer.TheVariants.{Done, OutOfTurn, OverLimit, NoRoom}
 use Rattle.writer.specs.Writer.{Call, finish, on_done, write_number, after, answer_of}
-use Rattle.writer.specs.Calls.{laid, part_at, end_at, part_laid, reservation_laid, turned, blocks_laid, blob_laid, laid_by, told, Outcome, taken, unchanged, outcome}
+use Rattle.writer.specs.Calls.{laid, part_at, end_at, part_laid, reservation_laid, turned, blocks_laid, blob_laid, laid_by, told, taken, unchanged, outcome}
 
 -- ── The bytes of a part ──
 pub begin_bytes : (name : List ℕ) → bytes4 1 ++ (name ++ replicate ((length name + 4) / 4 * 4 - length name) 0) ≡ part_bytes 0 (begins name)

@@ -1,15 +1,14 @@
 -- What a call is answered, from the facts that the tests of the code give; and by how much a call makes the blob longer.
 -- Assumes nothing.
-use mathlib.Core.Path.{◌≡◌, refl, sym, ◌∙◌, ap}
-use Prim.Native.Nat.{ℕ, suc, ◌+◌, ◌*◌, ◌/◌, ◌-◌, ◌≤◌, ◌<◌}
+use mathlib.Core.Path.{◌≡◌, ◌∙◌}
+use Prim.Native.Nat.{ℕ, ◌+◌, ◌*◌, ◌/◌, ◌≤◌, ◌<◌}
 use native.Mathlib.Omega.{arith}
-use mathlib.Core.Bool.{Bool, true, false, cond}
+use mathlib.Core.Bool.{true, false}
 use mathlib.Core.List.{List}
 use lib.ListN.{length}
-use lib.Dec.{leb, ltb, eqb}
 use borrow.Author.Tests.{eq-eqb, ne_eqb, le-leb, lt-leb, lt-ltb, le-ltb}
 use Rattle.words.specs.Bytes.{string_end}
-use Rattle.flattened.specs.Parts.{Part, begins, property, ends, part_size, name_size}
+use Rattle.flattened.specs.Parts.{begins, property, ends, part_size, name_size}
 use Rattle.writer.specs.declared.Writer.{Writer}
 use Rattle.writer.specs.declared.WriteAnswer.TheVariants.{Done, OutOfTurn, OverLimit, NoRoom}
 use Rattle.writer.specs.Writer.{reserve, write, finish, final_size, room_answer, in_turn, in_limits, after, answer_of}

@@ -1,5 +1,5 @@
 -- What each call leaves, whole: the writer, how long the blob is, the answer and every byte of the buffer. Document 02, request L1.
-use Rattle.std.specs.Prelude.{◌≡◌, ℕ, ◌+◌, ◌*◌, ◌-◌, List, ◌++◌, reverse, length, take, drop, replicate}
+use Rattle.std.specs.Prelude.{ℕ, ◌+◌, ◌*◌, ◌-◌, List, ◌++◌, reverse, length, take, drop, replicate}
 use Rattle.std.proofs.Math.Seq.{paste}
 use Rattle.pen.specs.Numbers.{bytes4, bytes8}
 use Rattle.flattened.specs.Parts.{Part, part_bytes, name_bytes, name_size}

@@ -1,16 +1,15 @@
 -- THE THEOREM: what is finished after any sequence of calls is the blob of one tree with its reservations, and zeros past its end; it is
 -- read back. Assumes nothing.
 use mathlib.Core.Path.{◌≡◌, refl, sym, ◌∙◌, ap, subst}
-use Prim.Native.Nat.{ℕ, zero, suc, ◌+◌, ◌*◌, ◌-◌, ◌≤◌, ◌<◌}
+use Prim.Native.Nat.{ℕ, suc, ◌+◌, ◌*◌, ◌-◌, ◌≤◌}
 use native.Mathlib.Omega.{arith}
-use mathlib.Core.Bool.{Bool, true, false, cond}
-use mathlib.Core.List.{List, [], ◌∷◌, ◌++◌, append_assoc, append-nil, reverse}
+use mathlib.Core.Bool.{false}
+use mathlib.Core.List.{List, [], ◌++◌, append_assoc, append-nil, reverse}
 use lib.ListN.{length, take, drop, replicate, length-append, length-drop, length-reverse, length-replicate, take-append-drop}
 use lib.Seq.{length-take-le}
 use borrow.Author.Tests.{ne_eqb}
 use Rattle.words.proofs.BytesLaws.{never}
 use Rattle.cells.specs.declared.Region.{Region}
-use Rattle.fdt.specs.declared.Verdict.TheVariants.{Accepted}
 use Rattle.grammar.proofs.TreeLaws.{run_t}
 use Rattle.grammar.proofs.TurnLaws.{as_given}
 use Rattle.pen.specs.Numbers.{bytes4, bytes8}
@@ -28,7 +27,6 @@ use Rattle.writer.specs.Writer.{finish, write_number, final_size, after, answer_
 use Rattle.writer.specs.Calls.{laid, turned, part_at, end_at, blocks_laid, blob_laid, Outcome, outcome}
 use Rattle.writer.proofs.Accepting.{call_passed, done_is, FinishTurn, finish_turn}
 use Rattle.writer_theorems.specs.History.{Account, History}
-use Rattle.writer_theorems.specs.Refusals.{TreeOf}
 use Rattle.writer_theorems.specs.Finished.{Finishes}
 use Rattle.writer_theorems.proofs.Middle.{laid_mid, turned_at}
 use Rattle.writer_theorems.proofs.Turns.{run_fin}

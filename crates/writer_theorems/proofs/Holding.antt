@@ -1,25 +1,20 @@
 -- The buffer holds what was written: the entries behind the place of the header, the parts, and at the end the names, last byte first.
 -- Assumes nothing.
-use mathlib.Core.Path.{◌≡◌, refl, sym, ◌∙◌, ap, subst}
-use Prim.Native.Nat.{ℕ, zero, suc, ◌+◌, ◌*◌, ◌-◌, ◌≤◌, ◌<◌}
+use mathlib.Core.Path.{◌≡◌, refl, sym, ◌∙◌, ap}
+use Prim.Native.Nat.{ℕ, ◌+◌, ◌*◌, ◌-◌, ◌≤◌}
 use native.Mathlib.Omega.{arith}
-use mathlib.Core.Logic.{◌⊎◌, inl, inr, ⊎_elim}
-use mathlib.Core.Bool.{Bool, true, false, cond}
+use mathlib.Core.Bool.{true, false}
 use mathlib.Core.List.{List, [], ◌∷◌, ◌++◌, append_assoc, append-nil, reverse, reverse-append}
-use lib.ListN.{length, get_or, take, drop, length-append, length-reverse, length-drop, take-append-drop}
+use lib.ListN.{length, take, drop, length-append, length-reverse, length-drop, take-append-drop}
 use lib.Seq.{length-take-le}
-use lib.Dec.{eqb}
-use borrow.Author.Tests.{eq-eqb}
 use Rattle.words.specs.Bytes.{string_end}
 use Rattle.words.proofs.BytesLaws.{first_before, never}
 use Rattle.cells.specs.declared.Region.{Region}
-use Rattle.fdt.specs.Tree.{Tok, begin, ended, prop, fin}
-use Rattle.fdt.specs.declared.Verdict.{Verdict}
 use Rattle.grammar.proofs.TreeLaws.{run_l}
 use Rattle.grammar.proofs.TurnLaws.{Raised}
 use Rattle.pen.specs.Numbers.{bytes8}
-use Rattle.flattened.specs.Parts.{Part, begins, property, ends, part_bytes, name_bytes, part_size, name_size, parts_bytes, names_bytes, parts_size, names_size, part_tok, parts_toks, NoZero, Clean, AllClean}
-use Rattle.flattened.specs.Blob.{entries_bytes, Entry, AllEntries}
+use Rattle.flattened.specs.Parts.{Part, part_bytes, name_bytes, part_size, name_size, parts_bytes, names_bytes, parts_size, names_size, parts_toks, NoZero, AllClean}
+use Rattle.flattened.specs.Blob.{entries_bytes, AllEntries}
 use Rattle.pen.proofs.LengthLaws.{bytes8_length}
 use Rattle.flattened.proofs.PartLaws.{part_length, name_length, parts_length, names_length}
 use Rattle.flattened.proofs.HeaderLaws.{entries_length}

@@ -1,10 +1,10 @@
 -- Bytes put into the middle of a list. Assumes nothing.
-use mathlib.Core.Path.{◌≡◌, refl, sym, ◌∙◌, ap}
-use Prim.Native.Nat.{ℕ, zero, suc, ◌+◌, ◌-◌, ◌≤◌, ◌<◌}
+use mathlib.Core.Path.{◌≡◌, sym, ◌∙◌, ap}
+use Prim.Native.Nat.{ℕ, ◌+◌, ◌-◌, ◌≤◌}
 use native.Mathlib.Omega.{arith}
-use mathlib.Core.List.{List, [], ◌∷◌, ◌++◌, append_assoc, reverse, reverse-append, reverse-reverse}
+use mathlib.Core.List.{List, ◌++◌, append_assoc, reverse, reverse-append, reverse-reverse}
 use lib.ListN.{length, take, drop, length-append, length-drop, take-append-drop}
-use lib.Seq.{paste, take_at, drop_at, take-length, drop-append-add, length-take-le, length-paste}
+use lib.Seq.{take_at, drop_at, take-length, drop-append-add, length-take-le, length-paste}
 use Rattle.writer.specs.Calls.{laid, turned}
 
 -- t put over mid

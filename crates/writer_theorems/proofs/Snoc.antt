@@ -1,9 +1,8 @@
 -- One part more behind the others, one entry more behind the others. Assumes nothing.
-use mathlib.Core.Path.{◌≡◌, refl, sym, ◌∙◌, ap}
-use Prim.Native.Nat.{ℕ, zero, suc, ◌+◌, ◌*◌, ◌<◌}
+use mathlib.Core.Path.{◌≡◌, sym, ◌∙◌, ap}
+use Prim.Native.Nat.{ℕ, ◌+◌}
 use native.Mathlib.Omega.{arith}
 use mathlib.Core.List.{List, [], ◌∷◌, ◌++◌, append_assoc, append-nil}
-use lib.ListN.{length, length-append}
 use Rattle.cells.specs.declared.Region.{Region}
 use Rattle.pen.specs.Numbers.{bytes8}
 use Rattle.flattened.specs.Parts.{Part, begins, property, ends, part_bytes, name_bytes, part_size, name_size, parts_bytes, names_bytes, parts_size, names_size, Clean, AllClean}

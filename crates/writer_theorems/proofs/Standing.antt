@@ -1,19 +1,18 @@
 -- After every sequence of calls the writer goes on and its buffer holds what was written, or it has finished. A refused call changes nothing.
 -- Assumes nothing.
 use mathlib.Core.Path.{◌≡◌, refl, sym, ◌∙◌, ap, subst}
-use mathlib.Core.Bool.{Bool, true, false}
+use mathlib.Core.Bool.{true, false}
 use mathlib.Core.List.{List}
 use Prim.Native.Nat.{ℕ}
-use native.Mathlib.Omega.{arith}
 use lib.ListN.{length}
 use Rattle.words.proofs.BytesLaws.{never}
-use Rattle.flattened.specs.Parts.{Part, begins, property, ends}
+use Rattle.flattened.specs.Parts.{begins, property, ends}
 use Rattle.writer.specs.declared.Writer.{Writer}
 use Rattle.writer.specs.declared.WriteAnswer.{WriteAnswer}
 use Rattle.writer.specs.declared.WriteAnswer.TheVariants.{Done, OutOfTurn, OverLimit, NoRoom}
-use Rattle.writer.specs.Writer.{Call, reserve, write, finish, on_done, write_number, fresh, in_turn, after, answer_of}
+use Rattle.writer.specs.Writer.{Call, reserve, write, finish, on_done, write_number, in_turn, after, answer_of}
 use Rattle.writer.specs.Calls.{laid_by, Outcome, taken, unchanged, outcome}
-use Rattle.writer.proofs.Accepting.{call_passed, done_is}
+use Rattle.writer.proofs.Accepting.{call_passed}
 use Rattle.writer_theorems.specs.History.{Account, with_call, Sized, History, starts, goes}
 use Rattle.writer_theorems.proofs.Holding.{Holds, holds_start}
 use Rattle.writer_theorems.proofs.Stepping.{holds_part, holds_reservation}

@@ -1,9 +1,9 @@
 -- Each call that is done keeps it so that the buffer holds what was written, with one thing more. Assumes nothing.
 use mathlib.Core.Path.{◌≡◌, refl, sym, ◌∙◌, ap, subst}
-use Prim.Native.Nat.{ℕ, zero, suc, ◌+◌, ◌*◌, ◌-◌, ◌≤◌, ◌<◌}
+use Prim.Native.Nat.{ℕ, ◌+◌, ◌*◌, ◌-◌, ◌≤◌, ◌<◌}
 use native.Mathlib.Omega.{arith}
-use mathlib.Core.Logic.{◌⊎◌, inl, inr, ⊎_elim}
-use mathlib.Core.Bool.{Bool, true, false, cond}
+use mathlib.Core.Logic.{⊎_elim}
+use mathlib.Core.Bool.{true, false}
 use mathlib.Core.List.{List, [], ◌∷◌, ◌++◌, append_assoc, reverse}
 use lib.ListN.{length, length-append, length-reverse}
 use Rattle.words.proofs.BytesLaws.{never}
@@ -13,21 +13,20 @@ use Rattle.grammar.proofs.TreeLaws.{run_l}
 use Rattle.grammar.proofs.TurnLaws.{Raised}
 use Rattle.pen.specs.Numbers.{bytes8}
 use Rattle.pen.proofs.LengthLaws.{bytes8_length}
-use Rattle.flattened.specs.Parts.{Part, begins, property, ends, part_size, name_size, parts_size, names_size, part_tok, parts_toks, Clean, AllClean, part_bytes, name_bytes}
-use Rattle.flattened.specs.Blob.{Entry, AllEntries}
+use Rattle.flattened.specs.Parts.{Part, begins, property, ends, part_size, name_size, parts_size, names_size, part_tok, parts_toks, Clean, part_bytes, name_bytes}
 use Rattle.flattened.proofs.PartLaws.{part_length, name_length}
 use Rattle.writer.specs.declared.Writer.{Writer}
 use Rattle.writer.specs.declared.WriteAnswer.TheVariants.{Done}
-use Rattle.writer.specs.Writer.{Call, reserve, write, finish, final_size, in_turn, in_limits, after, answer_of}
+use Rattle.writer.specs.Writer.{reserve, write, final_size, in_turn, in_limits, after, answer_of}
 use Rattle.writer.specs.Calls.{laid, part_at, part_laid, reservation_laid}
-use Rattle.writer.proofs.Accepting.{Passed, call_passed, part_space, begin_limits, BeginTurn, begin_turn, PropertyTurn, property_turn, EndTurn, end_turn, reserve_turn}
+use Rattle.writer.proofs.Accepting.{call_passed, part_space, begin_limits, BeginTurn, begin_turn, PropertyTurn, property_turn, EndTurn, end_turn, reserve_turn}
 use Rattle.writer.proofs.Refusals.{grow_root, grow_begin, grow_property, grow_end, grow_reservation}
 use Rattle.writer_theorems.specs.History.{region}
 use Rattle.writer_theorems.specs.Refusals.{begun, ended}
 use Rattle.writer_theorems.proofs.Snoc.{size_snoc, name_size_snoc, clean_snoc, entered_snoc, begun_append, ended_append}
 use Rattle.writer_theorems.proofs.Middle.{laid_length}
 use Rattle.writer_theorems.proofs.Turns.{run_root, run_begin, run_prop, run_end}
-use Rattle.writer_theorems.proofs.Holding.{Layout, layout_part, layout_entry, whole_long, Holds, holds_start, no_zero_lem}
+use Rattle.writer_theorems.proofs.Holding.{Layout, layout_part, layout_entry, whole_long, Holds, no_zero_lem}
 
 -- ── What a part in turn does to the writer's place ──
 -- limits that let a part pass

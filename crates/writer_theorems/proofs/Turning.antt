@@ -1,36 +1,31 @@
 -- A call that is out of turn, or over a limit, leads to no tree, or to none within the limits; with one that is in turn and then only closing
 -- calls the parts are a tree's. Assumes nothing.
-use mathlib.Core.Path.{◌≡◌, refl, sym, ◌∙◌, ap, subst}
+use mathlib.Core.Path.{◌≡◌, refl, sym, ◌∙◌, ap}
 use Prim.Native.Nat.{ℕ, zero, suc, ◌+◌, ◌-◌, ◌≤◌, ◌<◌}
 use native.Mathlib.Omega.{arith}
-use mathlib.Core.Logic.{◌⊎◌, inl, inr, ⊎_elim}
+use mathlib.Core.Logic.{◌⊎◌, ⊎_elim}
 use mathlib.Core.Bool.{Bool, true, false, cond, not, ◌&&◌}
-use mathlib.Core.List.{List, [], ◌∷◌, ◌++◌, append_assoc, append-nil}
-use lib.ListN.{length, get_or, replicate}
-use lib.Dec.{eqb, leb, ltb}
-use borrow.Author.Tests.{eqb-true, eqb-false, eq-eqb, ltb-true, lt-leb, leb-true, leb-false}
-use Rattle.words.specs.Bytes.{string_end}
-use Rattle.words.proofs.BytesLaws.{never, first_is}
+use mathlib.Core.List.{List, [], ◌∷◌, ◌++◌, append-nil}
+use lib.ListN.{replicate}
+use lib.Dec.{leb}
+use borrow.Author.Tests.{lt-leb}
+use Rattle.words.proofs.BytesLaws.{never}
 use Rattle.cells.specs.declared.Region.{Region}
-use Rattle.fdt.specs.Tree.{Tok, begin, prop, fin}
-use Rattle.fdt.specs.Tree.{ended as endToken}
-use Rattle.fdt.specs.declared.Verdict.{Verdict}
+use Rattle.fdt.specs.Tree.{Tok, begin, fin}
 use Rattle.fdt.specs.declared.Verdict.TheVariants.{Accepted, Broken, Over}
 use Rattle.grammar.proofs.TreeLaws.{run_l, run_t}
 use Rattle.grammar.proofs.TurnLaws.{Raised, as_given, Why, refused}
-use Rattle.flattened.specs.Parts.{Part, begins, property, ends, part_size, parts_size, part_tok, parts_toks, NoZero}
+use Rattle.flattened.specs.Parts.{Part, begins, property, ends, part_size, parts_size, part_tok, parts_toks}
 use Rattle.flattened.specs.Forest.{NamedValue, Forest, bare, tree_parts, levels_of, nodes_of}
 use Rattle.flattened.proofs.ReadBack.{parts_tree}
 use Rattle.flattened.proofs.OneTree.{tree_accepts}
 use Rattle.writer.specs.declared.Writer.{Writer}
-use Rattle.writer.specs.Writer.{Call, reserve, write, finish, in_turn, in_limits, after}
-use Rattle.writer.proofs.Accepting.{begin_turn, property_turn, end_turn, reserve_turn, finish_turn}
-use Rattle.writer_theorems.specs.History.{Account, with_call}
-use Rattle.writer_theorems.specs.Refusals.{TreeOf, OutOfTurn, HasZero, Wrong, finished, out_of_turn, zero_in_name, zero_in_property, named_root, nothing_reserved, begun, ended, closing, closed}
+use Rattle.writer.specs.Writer.{write, in_turn, in_limits, after}
+use Rattle.writer.proofs.Accepting.{begin_turn}
+use Rattle.writer_theorems.specs.Refusals.{TreeOf, begun, ended, closing}
 use Rattle.writer_theorems.proofs.Turns.{run_end, run_fin}
-use Rattle.writer_theorems.proofs.Holding.{Holds, no_zero_lem}
-use Rattle.writer_theorems.proofs.Stepping.{Passes, Next, next, within_passes, raised_passes, walks, open_after}
-use Rattle.writer_theorems.proofs.Finishing.{whole_tree}
+use Rattle.writer_theorems.proofs.Holding.{Holds}
+use Rattle.writer_theorems.proofs.Stepping.{Passes, next, walks, open_after}
 
 -- ── Closing calls ──
 snoc_closing : (xs : List Part) (x : Part) → closing (xs ++ (x ∷ [])) ≡ replicate (begun (xs ++ (x ∷ [])) - ended (xs ++ (x ∷ []))) ends

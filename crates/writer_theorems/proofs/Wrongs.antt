@@ -1,19 +1,19 @@
 -- A call is in turn exactly when nothing is wrong with it, in the request's words. Assumes nothing.
 use mathlib.Core.Path.{◌≡◌, refl, sym, ◌∙◌, ap, subst}
-use Prim.Native.Nat.{ℕ, zero, suc, ◌+◌, ◌≤◌, ◌<◌}
+use Prim.Native.Nat.{ℕ, ◌<◌}
 use native.Mathlib.Omega.{arith}
 use mathlib.Core.Logic.{◌⊎◌, inl, inr, ⊎_elim}
 use mathlib.Core.Bool.{Bool, true, false, cond, not, ◌&&◌}
 use mathlib.Core.List.{List, [], ◌∷◌, ◌++◌, append_assoc}
-use lib.ListN.{length, get_or}
+use lib.ListN.{length}
 use lib.Dec.{eqb, ltb}
-use borrow.Author.Tests.{eqb-true, eqb-false, ltb-true, not-true, not-false}
+use borrow.Author.Tests.{eqb-true, eqb-false, ltb-true, not-false}
 use Rattle.words.specs.Bytes.{string_end}
 use Rattle.words.proofs.BytesLaws.{never, first_is}
-use Rattle.flattened.specs.Parts.{Part, begins, property, ends, parts_size, part_tok}
+use Rattle.flattened.specs.Parts.{Part, begins, property, ends, part_tok}
 use Rattle.writer.specs.declared.Writer.{Writer}
 use Rattle.writer.specs.Writer.{Call, reserve, write, finish, no_zero, in_turn}
-use Rattle.writer.proofs.Accepting.{begin_turn, property_turn, end_turn, reserve_turn, finish_turn}
+use Rattle.writer.proofs.Accepting.{begin_turn, property_turn, reserve_turn, finish_turn}
 use Rattle.grammar.proofs.TurnLaws.{Raised}
 use Rattle.writer_theorems.specs.History.{Account}
 use Rattle.writer_theorems.specs.Refusals.{TreeOf, HasZero, Wrong, finished, out_of_turn, zero_in_name, zero_in_property, named_root, nothing_reserved, closing}

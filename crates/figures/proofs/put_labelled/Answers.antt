@@ -1,5 +1,4 @@
 -- `figures::put_labelled` meets its contract: what stands between its two calls is what the first left. Assumes nothing.
-use borrow.Author.Rules.{rules}
 use Rattle.figures.proofs.put_labelled.Goals as goal
 
 pub returns : goal.returns

@@ -1,8 +1,4 @@
-use Prim.Native.Nat.{◌+◌, ◌-◌, ◌≤◌}
-use native.Mathlib.Omega.{arith}
-use borrow.Author.Rules.{rules}
-use lib.ListN.{length}
-use Rattle.pen.proofs.WritingLaws.{no_room, room, nothing_put, all_put, Putting, begins, more, ends}
+use Rattle.pen.proofs.WritingLaws.{no_room, room, nothing_put, all_put, begins, more, ends}
 use Rattle.pen.proofs.put.Goals as goal
 
 pub returns-then-not-has_room : goal.returns-then-not-has_room

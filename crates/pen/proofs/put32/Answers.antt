@@ -1,6 +1,5 @@
 -- `pen::put32` meets its contract: its four bytes are put. Assumes nothing.
 use Rattle.pen.specs.Numbers.{bytes4}
-use borrow.Author.Rules.{rules}
 use Rattle.pen.proofs.put32.Goals as goal
 
 pub returns : goal.returns

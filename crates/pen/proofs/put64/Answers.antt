@@ -1,6 +1,5 @@
 -- `pen::put64` meets its contract: its eight bytes are put. Assumes nothing.
 use Rattle.pen.specs.Numbers.{bytes4, bytes8}
-use borrow.Author.Rules.{rules}
 use Rattle.pen.proofs.put64.Goals as goal
 
 pub returns : goal.returns

@@ -1,9 +1,6 @@
-use Prim.Native.Nat.{◌+◌, ◌-◌, ◌≤◌}
-use mathlib.Core.List.{reverse}
 use native.Mathlib.Omega.{arith}
-use borrow.Author.Rules.{rules}
-use lib.ListN.{length, length-reverse}
-use Rattle.pen.proofs.WritingLaws.{no_room, room, nothing_put, all_put, Putting, begins, ends}
+use lib.ListN.{length-reverse}
+use Rattle.pen.proofs.WritingLaws.{no_room, room, nothing_put, all_put, begins, ends}
 use Rattle.pen.proofs.TurnLaws.{more_turned}
 use Rattle.pen.proofs.put_turned.Goals as goal
 

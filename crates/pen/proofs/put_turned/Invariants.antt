@@ -1,11 +1,8 @@
 -- `pen::put_turned` meets its contract: the invariant (WritingLaws, TurnLaws) is that there is room and the first i bytes are put; the measure is what is left. Assumes nothing.
 use Prim.Native.Nat.{◌+◌, ◌-◌, ◌≤◌}
 use mathlib.Core.List.{reverse}
-use native.Mathlib.Omega.{arith}
-use borrow.Author.Rules.{rules}
-use lib.ListN.{length, length-reverse}
-use Rattle.pen.proofs.WritingLaws.{no_room, room, nothing_put, all_put, Putting, begins, ends}
-use Rattle.pen.proofs.TurnLaws.{more_turned}
+use lib.ListN.{length}
+use Rattle.pen.proofs.WritingLaws.{Putting}
 use Rattle.pen.proofs.put_turned.Given as goal
 
 abbrev pub invariant-loop-i : goal.invariant-loop-i

@@ -1,8 +1,7 @@
-use Prim.Native.Nat.{ℕ, ◌+◌, ◌-◌, ◌≤◌}
+use Prim.Native.Nat.{ℕ}
 use native.Mathlib.Omega.{arith}
-use borrow.Author.Rules.{rules}
-use lib.ListN.{length, replicate, length-replicate}
-use Rattle.pen.proofs.WritingLaws.{no_room, room, nothing_put, all_put, Putting, begins, ends}
+use lib.ListN.{length-replicate}
+use Rattle.pen.proofs.WritingLaws.{no_room, room, nothing_put, all_put, begins, ends}
 use Rattle.pen.proofs.TurnLaws.{more_zeros}
 use Rattle.pen.proofs.put_zeros.Goals as goal
 

@@ -1,10 +1,7 @@
 -- `pen::put_zeros` meets its contract: the invariant (WritingLaws, TurnLaws) is that there is room and the first i zeros are put; the measure is what is left. Assumes nothing.
-use Prim.Native.Nat.{ℕ, ◌+◌, ◌-◌, ◌≤◌}
-use native.Mathlib.Omega.{arith}
-use borrow.Author.Rules.{rules}
-use lib.ListN.{length, replicate, length-replicate}
-use Rattle.pen.proofs.WritingLaws.{no_room, room, nothing_put, all_put, Putting, begins, ends}
-use Rattle.pen.proofs.TurnLaws.{more_zeros}
+use Prim.Native.Nat.{◌+◌, ◌-◌, ◌≤◌}
+use lib.ListN.{length, replicate}
+use Rattle.pen.proofs.WritingLaws.{Putting}
 use Rattle.pen.proofs.put_zeros.Given as goal
 
 abbrev pub invariant-loop-i : goal.invariant-loop-i

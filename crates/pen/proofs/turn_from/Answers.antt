@@ -1,8 +1,8 @@
 use lib.Seq.{lt-length-set}
-use lib.ListN.{length, get_or}
+use lib.ListN.{get_or}
 use native.Mathlib.Omega.{arith}
-use Prim.Native.Nat.{◌-◌, ◌≤◌}
-use Rattle.pen.proofs.TurnLaws.{Turning, turn_begins, turn_more, turn_ends, turn_none}
+use Prim.Native.Nat.{◌-◌}
+use Rattle.pen.proofs.TurnLaws.{turn_begins, turn_more, turn_ends, turn_none}
 use Rattle.pen.proofs.turn_from.Goals as goal
 
 pub returns-then-out-from : goal.returns-then-out-from

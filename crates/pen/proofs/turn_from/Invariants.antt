@@ -1,9 +1,7 @@
 -- `pen::turn_from` meets its contract: the invariant (TurnLaws) is that what is outside lo and hi is turned; the measure is what is between them. Assumes nothing.
-use lib.Seq.{lt-length-set}
-use lib.ListN.{length, get_or}
-use native.Mathlib.Omega.{arith}
+use lib.ListN.{length}
 use Prim.Native.Nat.{◌-◌, ◌≤◌}
-use Rattle.pen.proofs.TurnLaws.{Turning, turn_begins, turn_more, turn_ends, turn_none}
+use Rattle.pen.proofs.TurnLaws.{Turning}
 use Rattle.pen.proofs.turn_from.Given as goal
 
 abbrev pub invariant-loop-lo : goal.invariant-loop-lo

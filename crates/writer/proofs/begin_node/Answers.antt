@@ -4,7 +4,6 @@ use Rattle.flattened.specs.Parts.{begins, part_size, name_size}
 use Rattle.writer.specs.Writer.{write, after}
 use Rattle.writer.proofs.Accepting.{part_room, begin_few}
 use Rattle.writer.proofs.Laying.{refused, made, lay_begin}
-use borrow.Author.Rules.{rules}
 use Rattle.writer.proofs.begin_node.Goals as goal
 
 pub returns-then-number-ne0 : goal.returns-then-number-ne0

@@ -5,7 +5,6 @@ use Rattle.flattened.specs.Parts.{ends, part_size, name_size}
 use Rattle.writer.specs.Writer.{write, after}
 use Rattle.writer.proofs.Accepting.{part_room, end_inside}
 use Rattle.writer.proofs.Laying.{refused, made, lay_end}
-use borrow.Author.Rules.{rules}
 use Rattle.writer.proofs.end_node.Goals as goal
 
 pub returns-then-number-ne0 : goal.returns-then-number-ne0

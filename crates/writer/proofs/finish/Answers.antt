@@ -2,9 +2,8 @@
 use Rattle.writer.proofs.Laying.{lay_blob, finish_made}
 use native.Mathlib.Omega.{arith}
 use Rattle.writer.specs.Writer.{finish, after}
-use Rattle.writer.proofs.Accepting.{finish_room, finish_size}
-use Rattle.writer.proofs.Laying.{refused, made, lay_blob}
-use borrow.Author.Rules.{rules}
+use Rattle.writer.proofs.Accepting.{finish_room}
+use Rattle.writer.proofs.Laying.{refused, lay_blob}
 use Rattle.writer.proofs.finish.Goals as goal
 
 pub returns-then-number-ne0 : goal.returns-then-number-ne0

@@ -3,7 +3,6 @@ use Rattle.writer.proofs.Refusals.{begin_done, begin_zero, begin_torn, begin_nam
 use mathlib.Core.Path.{◌∙◌, subst}
 use Prim.Native.Nat.{ℕ, ◌≤◌, ◌<◌}
 use lib.ListN.{length}
-use borrow.Author.Rules.{rules}
 use Rattle.writer.proofs.judge_begin.Goals as goal
 
 pub returns-then-w : goal.returns-then-w

@@ -1,7 +1,6 @@
 -- `writer::judge_end` meets its contract: one law for each return (Refusals). Assumes nothing.
 use Rattle.writer.proofs.Refusals.{end_done, end_bare, end_out, end_room}
 use mathlib.Core.Path.{◌∙◌}
-use borrow.Author.Rules.{rules}
 use Rattle.writer.proofs.judge_end.Goals as goal
 
 pub returns-then-w : goal.returns-then-w

@@ -1,7 +1,6 @@
 -- `writer::judge_finish` meets its contract: one law for each return (Refusals). Assumes nothing.
 use Rattle.writer.proofs.Refusals.{finish_done, finish_bare, finish_open, finish_room}
 use mathlib.Core.Path.{◌∙◌}
-use borrow.Author.Rules.{rules}
 use Rattle.writer.proofs.judge_finish.Goals as goal
 
 pub returns-then-w : goal.returns-then-w

@@ -4,7 +4,6 @@ use mathlib.Core.Path.{◌∙◌, subst}
 use Prim.Native.Nat.{ℕ, ◌≤◌, ◌<◌}
 use lib.ListN.{length}
 use borrow.Author.Tests.{not-true, not-false}
-use borrow.Author.Rules.{rules}
 use Rattle.writer.proofs.judge_property.Goals as goal
 
 pub returns-then-w : goal.returns-then-w

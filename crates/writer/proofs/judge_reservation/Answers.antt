@@ -1,7 +1,6 @@
 -- `writer::judge_reservation` meets its contract: one law for each return (Refusals). Assumes nothing.
 use Rattle.writer.proofs.Refusals.{reserve_done, reserve_late, reserve_address, reserve_size, reserve_none}
 use mathlib.Core.Path.{◌∙◌}
-use borrow.Author.Rules.{rules}
 use Rattle.writer.proofs.judge_reservation.Goals as goal
 
 pub returns-then-w : goal.returns-then-w

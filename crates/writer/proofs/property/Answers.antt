@@ -7,7 +7,6 @@ use Rattle.flattened.specs.Parts.{property, part_size, name_size}
 use Rattle.writer.specs.Writer.{write, after}
 use Rattle.writer.proofs.Accepting.{part_room}
 use Rattle.writer.proofs.Laying.{refused, made, lay_property}
-use borrow.Author.Rules.{rules}
 use Rattle.writer.proofs.property.Goals as goal
 
 pub returns-then-number-ne0 : goal.returns-then-number-ne0

@@ -4,7 +4,6 @@ use Rattle.flattened.specs.Parts.{begins}
 use Rattle.flattened.proofs.PartLaws.{part_length}
 use Rattle.pen.proofs.WritingLaws.{and_then_lem, as_text}
 use Rattle.writer.proofs.Laying.{begin_bytes}
-use borrow.Author.Rules.{rules}
 use Rattle.writer.proofs.put_begin.Goals as goal
 
 pub returns : goal.returns

@@ -1,9 +1,7 @@
 -- `writer::put_header` meets its contract: its ten numbers stand one behind the other. Assumes nothing.
-use native.Mathlib.Omega.{arith}
 use Rattle.flattened.specs.Blob.{header}
 use Rattle.pen.proofs.WritingLaws.{and_then_lem, kept}
 use Rattle.writer.proofs.Laying.{header_room}
-use borrow.Author.Rules.{rules}
 use Rattle.writer.proofs.put_header.Goals as goal
 
 pub returns : goal.returns

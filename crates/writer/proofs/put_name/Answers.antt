@@ -4,7 +4,6 @@ use mathlib.Core.List.{[], ◌∷◌, ◌++◌}
 use lib.ListN.{length-reverse, length-append}
 use Rattle.pen.proofs.WritingLaws.{and_then_lem, as_text}
 use Rattle.writer.proofs.Laying.{name_bytes_lem}
-use borrow.Author.Rules.{rules}
 use Rattle.writer.proofs.put_name.Goals as goal
 
 pub returns : goal.returns

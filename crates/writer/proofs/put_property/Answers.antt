@@ -5,7 +5,6 @@ use Rattle.flattened.specs.Parts.{property}
 use Rattle.flattened.proofs.PartLaws.{part_length}
 use Rattle.pen.proofs.WritingLaws.{and_then_lem, as_text}
 use Rattle.writer.proofs.Laying.{property_bytes}
-use borrow.Author.Rules.{rules}
 use Rattle.writer.proofs.put_property.Goals as goal
 
 pub returns : goal.returns

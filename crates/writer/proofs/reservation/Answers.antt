@@ -1,15 +1,12 @@
 -- `writer::reservation` meets its contract: a call that is done has room (Accepting), and leaves what it must (Laying). Assumes nothing.
 use Rattle.pen.proofs.LengthLaws.{bytes8_length}
 use Rattle.pen.proofs.WritingLaws.{and_then_lem}
-use Prim.Native.Nat.{◌+◌}
-use mathlib.Core.List.{◌++◌}
 use lib.ListN.{length-append}
 use Rattle.pen.specs.Numbers.{bytes8}
 use native.Mathlib.Omega.{arith}
 use Rattle.writer.specs.Writer.{reserve, after}
 use Rattle.writer.proofs.Accepting.{entry_room}
 use Rattle.writer.proofs.Laying.{refused, made, lay_entry}
-use borrow.Author.Rules.{rules}
 use Rattle.writer.proofs.reservation.Goals as goal
 
 pub returns-then-number-ne0 : goal.returns-then-number-ne0

@@ -4,7 +4,6 @@ use mathlib.Core.Path.{◌∙◌, ap}
 use native.Mathlib.Omega.{arith}
 use Prim.Native.Nat.{ℕ}
 use Rattle.writer.specs.Writer.{room_answer}
-use borrow.Author.Rules.{rules}
 use Rattle.writer.proofs.room_for.Goals as goal
 
 pub returns-then-reserved-gt1048576 : goal.returns-then-reserved-gt1048576
