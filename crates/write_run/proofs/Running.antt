@@ -1,24 +1,21 @@
 -- A run of calls, call by call: what is read ends behind its letter, and one call of a run goes on or ends it. Assumes nothing.
 use mathlib.Core.Path.{◌≡◌, refl, sym, ap, subst, ◌∙◌}
-use mathlib.Core.Bool.{Bool, true, false, cond}
 use mathlib.Core.List.{List}
 use Prim.Native.Nat.{ℕ, zero, suc, ◌+◌, ◌-◌, ◌≤◌, ◌<◌}
 use native.Mathlib.Omega.{arith}
-use lib.Dec.{leb, ltb, eqb}
-use lib.ListN.{length, get_or}
+use lib.Dec.{leb, eqb}
+use lib.ListN.{length}
 use borrow.Author.Tests.{lt-ltb, le-ltb}
 use Rattle.words.proofs.BytesLaws.{cond_elim}
 use Rattle.writer.specs.declared.Writer.{Writer}
 use Rattle.writer.specs.declared.WriteAnswer.{WriteAnswer}
 use Rattle.writer.specs.declared.WriteAnswer.TheVariants.{Done, OutOfTurn, OverLimit, NoRoom}
 use Rattle.writer.specs.Writer.{on_done}
-use Rattle.writer.specs.Calls.{outcome}
 use Rattle.write_run.specs.declared.Read.{Read}
 use Rattle.write_run.specs.declared.CallRead.{CallRead}
 use Rattle.write_run.specs.declared.CallRead.TheVariants.{NoCall, Reservation, Begin, Property, End, Finish}
-use Rattle.write_run.specs.declared.Stop.{Stop}
 use Rattle.write_run.specs.declared.Stop.TheVariants.{Goes, Refused}
-use Rattle.write_run.specs.Input.{whole, by_letter, read_at, nothing, Calls, over, behind, calls_from}
+use Rattle.write_run.specs.Input.{whole, by_letter, read_at, Calls, over, behind, calls_from}
 use Rattle.write_run.specs.Run.{Run, run, run_of, stop_by, Stepped, made_of}
 
 -- where a call stands, it ends behind p
@@ -103,7 +100,7 @@ calls_over (suc f) s p h = rw (le-ltb _ _ h)
 
 -- one call of the run from p, as the code makes it: on, or the end
 module _ (s : List ℕ) (k p : ℕ) (w : Writer) (z : ℕ) (buf : List ℕ) (st : Stepped) (r : Read) (h : k ≤ p) (lt : p < length s) (e : r ≡ read_at s p)
-  (f : st ≡ made_of s r.call w buf) where
+    (f : st ≡ made_of s r.call w buf) where
   pub past : st.stop ≡ Goes → p < r.next
   past g =
       let n : r.call ≡ NoCall → ⊥ = stood s r.call w buf (ap (λ (x : Stepped). x.stop) (sym f) ∙ g) in

@@ -6,7 +6,7 @@ use Rattle.writer.specs.declared.Writer.{Writer}
 use Rattle.writer.specs.declared.Wrote.{Wrote}
 use Rattle.writer.specs.declared.WriteAnswer.{WriteAnswer}
 use Rattle.writer.specs.declared.WriteAnswer.TheVariants.{Done, OutOfTurn, OverLimit, NoRoom}
-use Rattle.writer.specs.Writer.{Call, reserve, write, finish, on_done, fresh}
+use Rattle.writer.specs.Writer.{reserve, write, finish, on_done, fresh}
 use Rattle.writer.specs.Calls.{Outcome, outcome}
 use Rattle.write_run.specs.declared.CallRead.{CallRead}
 use Rattle.write_run.specs.declared.CallRead.TheVariants.{NoCall, Reservation, Begin, Property, End, Finish}

@@ -1,6 +1,5 @@
 -- `write_run::make_call` meets its contract: each call that was read is the writer's own. Assumes nothing.
-use mathlib.Core.Path.{◌≡◌, refl, ap}
-use Rattle.writer.specs.Calls.{wrote}
+use mathlib.Core.Path.{ap}
 use Rattle.write_run.specs.Run.{made_of, told}
 use Rattle.write_run.proofs.make_call.Goals as goal
 

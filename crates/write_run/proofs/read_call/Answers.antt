@@ -1,5 +1,4 @@
 -- `write_run::read_call` meets its contract: each letter has its way through the definition. Assumes nothing.
-use mathlib.Core.Path.{◌≡◌, refl, sym}
 use borrow.Author.Tests.{le-leb, lt-leb, eq-eqb, ne_eqb}
 use Rattle.write_run.specs.Input.{read_at, by_letter}
 use Rattle.write_run.proofs.read_call.Goals as goal

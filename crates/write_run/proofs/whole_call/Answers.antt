@@ -1,5 +1,4 @@
 -- `write_run::whole_call` meets its contract. Assumes nothing.
-use mathlib.Core.Path.{sym}
 use borrow.Author.Tests.{le-leb, lt-leb}
 use Rattle.write_run.specs.Input.{whole}
 use Rattle.write_run.proofs.whole_call.Goals as goal

@@ -1,4 +1,4 @@
-use mathlib.Core.Path.{◌≡◌, refl, sym, ◌∙◌}
+use mathlib.Core.Path.{◌≡◌, sym, ◌∙◌}
 use Prim.Native.Nat.{◌-◌}
 use native.Mathlib.Omega.{arith}
 use lib.ListN.{length}
@@ -6,9 +6,9 @@ use Rattle.write_run.specs.Run.{run_of, ran_of, stepped}
 use Rattle.write_run.proofs.Running.{past, step_goes, step_ends, calls_over}
 use Rattle.write_run.proofs.write_calls.Goals as goal
 
-pub loop_at_init : goal.loop_at_init
+pub loop-at-init : goal.loop-at-init
 unfolding ran_of
-loop_at_init c = let e : length c.args.calls.now - 0 ≡ length c.args.calls.now = omega arith in (omega arith, rw (e, c.start-w.ensures))
+loop-at-init c = let e : length c.args.calls.now - 0 ≡ length c.args.calls.now = omega arith in (omega arith, rw (e, c.start-w.ensures))
 
 pub returns-in_default : goal.returns-in_default
 returns-in_default c =
