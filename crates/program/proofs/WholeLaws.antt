@@ -10,7 +10,7 @@ use Rattle.report_text.specs.Text.{report_text}
 use Rattle.report_text.specs.LateText.{late_text}
 use Rattle.report_text.specs.Writing.{Writes}
 use Rattle.report_text.proofs.WritingLaws.{text_taken}
-use Rattle.program.specs.Whole.{lent_slots, Reports, ReportsLate}
+use Rattle.program.specs.Whole.{lent_slots, Reports, ReportsLate, RefusesLong}
 
 -- a space that is full holds the first bytes of what was there, and one with room to spare holds them all
 module _ (space s rest : List ℕ) (n : ℕ) (lost : s ≡ take n space ++ rest) (within : n ≤ length space) where
@@ -59,3 +59,13 @@ reported_late (Some s) (Some rest) old new space buffer out n k r room few reads
       omega (arith, ap length all, held space s rest n reads.0 (omega arith)),
       subst (Appends old new) (text_taken text ∙ ap (λ f. late_text 4096 f lent_slots) (sym all)) (writes e),
     )
+
+-- and of more than it takes it does nothing
+pub refused_long :
+    (known after : Option (List ℕ)) (space : List ℕ) (n : ℕ) (r : Ending) → n < length space → n ≤ 262144
+    → Consumes known after (take n space) × (n < length space → IsAtEnd after) → RefusesLong known r
+refused_long None after space n r room few reads = tt
+refused_long (Some s) None space n r room few reads = absurd reads.0
+refused_long (Some s) (Some rest) space n r room few reads =
+    let all = all_of space s rest n reads.0 (omega arith) (reads.1 room) in
+    λ h. absurd (omega (arith, h, ap length all, held space s rest n reads.0 (omega arith)))

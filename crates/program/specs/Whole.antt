@@ -1,5 +1,5 @@
 -- What the two programs write where the bytes of their reader are known, as of one over memory.
-use Rattle.std.specs.Prelude.{◌≡◌, ℕ, ◌≤◌, List, length, take, ⊤, Option, None, Some}
+use Rattle.std.specs.Prelude.{◌≡◌, ℕ, ◌≤◌, ◌<◌, List, length, take, ⊤, Option, None, Some, IfSome}
 use Rattle.std.proofs.Math.ListN.{replicate}
 use Rattle.std.specs.Io.KnownBytes.{Appends, Keeps}
 use Rattle.standard.specs.declared.Ending.{Ending}
@@ -24,3 +24,7 @@ ReportsLate (Some s) old new r = r ≡ Written → (length s ≤ 262144) × Appe
 -- nothing is written where a read failed, or more came than the program takes
 abbrev pub SilentUnread : Option (List ℕ) → Option (List ℕ) → Ending → Type 0
 SilentUnread old new r = r ≡ Unread → Keeps old new
+
+-- of a reader that has more than `late` takes, nothing is done
+abbrev pub RefusesLong : Option (List ℕ) → Ending → Type 0
+RefusesLong known r = IfSome known (λ s. 262144 < length s → r ≡ Unread)

@@ -3,7 +3,7 @@
 #![tactic(auto)]
 
 ghost use Rattle.std.specs.Prelude.{◌≡◌};
-ghost use Rattle.program.specs.Whole.{Reports, ReportsLate, SilentUnread};
+ghost use Rattle.program.specs.Whole.{Reports, ReportsLate, SilentUnread, RefusesLong};
 
 use standard::{Ending, Input};
 use std::io::{Read, Write};
@@ -29,6 +29,7 @@ pub fn report<R: Read, W: Write, E: Eprint>(input: &mut R, output: &mut W, told:
 // done, so that no claim is lost unseen. 512 slots are lent.
 pub fn late<R: Read, W: Write, E: Eprint>(input: &mut R, output: &mut W, told: &E) -> Ending
     ensures text { ReportsLate (R.remaining input.old) (W.contents output.old) (W.contents output.new) result }
+    ensures long { RefusesLong (R.remaining input.old) result }
     ensures unread { SilentUnread (W.contents output.old) (W.contents output.new) result }
 {
     let mut space = [0u8; 262145];
