@@ -22,6 +22,6 @@ abbrev pub Above : ℕ → List Interval → Type 0
 Above a [] = Unit {0}
 Above a (r ∷ l) = (a ≤ r.lo) × (r.lo < r.hi) × Above (suc r.hi) l
 
--- demand 3: "Areas ascend, are nonempty .., and never touch." Normal.one-list says that such a list is determined by its addresses
+-- demand 3: "Areas ascend, are nonempty .., and never touch." Normal.one_list says that such a list is determined by its addresses
 abbrev pub Ascending : List Interval → Type 0
 Ascending l = Above 0 l

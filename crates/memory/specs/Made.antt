@@ -1,5 +1,5 @@
 -- What every map has that is made by our calls: it starts empty, and only they change it (document 01, "Rounding and the map").
--- This is all that a contract asks of a caller. MapLaws.registered-made, ListLaws.listed_made, PickedLaws.picked_made and
+-- This is all that a contract asks of a caller. MapLaws.registered_made, ListLaws.listed_made, PickedLaws.picked_made and
 -- CallLaws.tree_made say that every call hands back such a map.
 use Rattle.std.specs.Prelude.{◌≡◌, ℕ, ◌<◌, ◌≤◌, length}
 use Rattle.page.specs.Round.{top, Aligned}

@@ -20,7 +20,7 @@ pub record IsUp (p x u : ℕ) : Type 0 where
   pub enough : x ≤ top p → x ≤ u
   pub least : x ≤ top p → (y : ℕ) → Aligned p y → x ≤ y → u ≤ y
 
--- the number that is so, computed. Laws.up-is ties the two, and Laws.is-up says that no other number is so
+-- the number that is so, computed. Laws.up_is ties the two, and Laws.is_up says that no other number is so
 unfoldable pub up : ℕ → ℕ → ℕ
 up p x = cond (leb x (top p)) (down p (x + (p - 1))) (top p)
 

@@ -1,5 +1,5 @@
 -- The search that finds the target and climbs on its way back, node by node and children by children, as translate_from_subtree does.
--- SearchLaws.search-is: on every tree it gives what specs/Translation.antt says.
+-- SearchLaws.search_is: on every tree it gives what specs/Translation.antt says.
 use Rattle.std.specs.Prelude.{ℕ, suc, ◌+◌, ◌*◌, ◌≤◌, List, cond, length, eqb}
 use Rattle.cells.specs.declared.CellCount.{CellCount}
 use Rattle.fdt.specs.Tree.{Property, Nodes, none, node, count, height}

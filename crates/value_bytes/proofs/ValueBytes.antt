@@ -111,8 +111,8 @@ all_kept (p ∷ ps) = kept refl (all_kept ps)
 unread_none : (t : Nodes) → Unread unfree t
 unread_none t =
     record {
-      address_cells_lem = λ q. refl;
-      size_cells_lem = λ q. refl;
+      address_cell_count = λ q. refl;
+      size_cell_count = λ q. refl;
       ranges = λ q. refl;
       reg = λ q. refl;
       status = λ q. refl;

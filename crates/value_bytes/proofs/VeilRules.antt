@@ -35,11 +35,11 @@ module _ {free : Free} {t : Nodes} (k : Unread free t) where
   -- ── Cell counts ──
   pub address_veil : (ps : List Property) → address_of (veil_p free ps) ≡ address_of ps
   unfolding address_of
-  address_veil ps = ap count_of (value_veil free address_cells k.address_cells_lem ps)
+  address_veil ps = ap count_of (value_veil free address_cells k.address_cell_count ps)
 
   pub size_veil : (ps : List Property) → size_of (veil_p free ps) ≡ size_of ps
   unfolding size_of
-  size_veil ps = ap count_of (value_veil free size_cells k.size_cells_lem ps)
+  size_veil ps = ap count_of (value_veil free size_cells k.size_cell_count ps)
 
   -- ── Translation ──
   over_veil : (bus : List Property) (up : CellCount) (address size : ℕ) → over (veil_p free bus) up address size ≡ over bus up address size
@@ -81,10 +81,10 @@ module _ {free : Free} {t : Nodes} (k : Unread free t) where
   unfolding children_count
   children_veil root ps =
       rw (
-        value_veil free address_cells k.address_cells_lem root,
-        value_veil free address_cells k.address_cells_lem ps,
-        value_veil free size_cells k.size_cells_lem root,
-        value_veil free size_cells k.size_cells_lem ps,
+        value_veil free address_cells k.address_cell_count root,
+        value_veil free address_cells k.address_cell_count ps,
+        value_veil free size_cells k.size_cell_count root,
+        value_veil free size_cells k.size_cell_count ps,
         value_veil free ranges_name k.ranges ps,
       )
 

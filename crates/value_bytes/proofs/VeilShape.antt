@@ -104,8 +104,8 @@ module _ (free : Free) where
   pub unread_alike : (t u : Nodes) → veil_k free t ≡ veil_k free u → Unread free t → Unread free u
   unread_alike t u e k =
       record {
-        address_cells_lem = k.address_cells_lem;
-        size_cells_lem = k.size_cells_lem;
+        address_cell_count = k.address_cell_count;
+        size_cell_count = k.size_cell_count;
         ranges = k.ranges;
         reg = k.reg;
         status = k.status;

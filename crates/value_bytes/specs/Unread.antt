@@ -16,8 +16,8 @@ pub data AllKept (free : Free) : List Property → Type 0 where
 
 -- which properties are free to change: none of the named ones, and none in /aliases of this tree
 pub record Unread (free : Free) (t : Nodes) : Type 0 where
-  pub address_cells_lem : Keeps free address_cells
-  pub size_cells_lem : Keeps free size_cells
+  pub address_cell_count : Keeps free address_cells
+  pub size_cell_count : Keeps free size_cells
   pub ranges : Keeps free ranges_name
   pub reg : Keeps free reg_name
   pub status : Keeps free status_name

@@ -1,5 +1,5 @@
 -- `translation::translate_mmio_address` meets its contract: the search from the root's children on, by StepLaws.from_root, which has it from
--- SearchLaws.search-is. Assumes nothing.
+-- SearchLaws.search_is. Assumes nothing.
 use Rattle.translation.proofs.StepLaws.{no_root, root_begins, from_root}
 use Rattle.translation.proofs.translate_mmio_address.Goals as goal
 
