@@ -1,11 +1,11 @@
 -- The areas of a list of entries ascend, and have the addresses that document 01 says. Assumes nothing.
+use Rattle.std.specs.Prelude.{Option}
 use mathlib.Core.List.{List, [], ◌∷◌, ◌++◌, map}
 use mathlib.Core.Logic.{◌⊎◌, inl, inr, ⊎_elim, ◌↔◌}
 use Prim.Native.Nat.{ℕ, suc, ◌≤◌, ◌<◌}
 use native.Mathlib.Omega.{arith}
 use native.Mathlib.Nat.{le_refl}
 use Rattle.entry.specs.declared.MemoryEntry.{MemoryEntry}
-use Rattle.entry.specs.declared.FoundEntry.{FoundEntry}
 use Rattle.entry.specs.Entry.{overlap, meet}
 use Rattle.entry.proofs.EntryLaws.{Meets, some, none, meets}
 use Rattle.areas.specs.Interval.{Interval, Inside, Listed, Ascending}
@@ -53,7 +53,7 @@ module _ (limits : MemoryEntry) (busy : List Interval) (solid : Solid busy) wher
   unfolding overlap
   carved_chain f = go (meet f limits) (meets f limits)
     where
-      go : (r : FoundEntry) → Meets f limits r → Chain f.start f.end (carved_by busy r)
+      go : (r : Option MemoryEntry) → Meets f limits r → Chain f.start f.end (carved_by busy r)
       go r (some h) =
           let c : MemoryEntry = overlap f limits in
           chain_wider (carve busy c.start c.end) c.start c.end f.start f.end (omega arith) (omega arith) (carve_chain busy c.start c.end solid h)
@@ -63,7 +63,7 @@ module _ (limits : MemoryEntry) (busy : List Interval) (solid : Solid busy) wher
   unfolding overlap
   carved_listed f x = go (meet f limits) (meets f limits)
     where
-      go : (r : FoundEntry) → Meets f limits r → Listed x (carved_by busy r) ↔ Left x limits busy (f ∷ [])
+      go : (r : Option MemoryEntry) → Meets f limits r → Listed x (carved_by busy r) ↔ Left x limits busy (f ∷ [])
       go r (some h) = let c = carve_right x busy _ _ solid h in (
         λ i. let t = c.into i in (inl (omega arith, omega arith), omega arith, omega arith, t.2),
         λ l. ⊎_elim (λ (i : Inside x (span f)). c.back (omega arith) (omega arith) l.3) (λ z. absurd z) l.0,

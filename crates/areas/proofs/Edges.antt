@@ -1,9 +1,9 @@
 -- Every area starts at the start of a Free entry cut to the limits, or where a reservation ends, and ends at the end of such an entry,
 -- or where a reservation starts: what holds of those edges, as being whole pages, holds of the areas'. Assumes nothing.
+use Rattle.std.specs.Prelude.{Option}
 use mathlib.Core.List.{List, [], ◌∷◌}
 use Prim.Native.Nat.{ℕ, zero, suc, ◌-◌, ◌<◌}
 use Rattle.entry.specs.declared.MemoryEntry.{MemoryEntry}
-use Rattle.entry.specs.declared.FoundEntry.{FoundEntry}
 use Rattle.entry.specs.Entry.{overlap, meet}
 use Rattle.entry.proofs.EntryLaws.{Meets, some, none, meets}
 use Rattle.areas.specs.Interval.{Interval}
@@ -54,7 +54,7 @@ module _ (P Q : ℕ → Type 0) where
     carved_edges : (limits f : MemoryEntry) → CutTo P Q limits f → Every (Edged P Q) (carved_by busy (meet f limits))
     carved_edges limits f h = go (meet f limits) (meets f limits)
       where
-        go : (r : FoundEntry) → Meets f limits r → Every (Edged P Q) (carved_by busy r)
+        go : (r : Option MemoryEntry) → Meets f limits r → Every (Edged P Q) (carved_by busy r)
         go r (some k) = carve_edges _ _ k h.0 h.1
         go r (none k) = tt
 

@@ -1,5 +1,6 @@
 -- The areas of a map that our calls made: they ascend, have the addresses of document 01's rule, are whole pages,
 -- and are no more than the entries held. Assumes nothing.
+use Rattle.std.specs.Prelude.{Option, ℕ}
 use mathlib.Core.Path.{◌≡◌, ap}
 use mathlib.Core.List.{List, [], ◌∷◌, map}
 use mathlib.Core.Bool.{Bool, true, false, not}
@@ -20,7 +21,6 @@ use Rattle.memory.specs.declared.MemoryMap.{MemoryMap}
 use Rattle.memory.specs.Map.{slots_of, at}
 use Rattle.memory.specs.Made.{Made}
 use Rattle.listing.specs.Listing.{held, wants, those}
-use Rattle.areas.specs.declared.Limit.{Limit}
 use Rattle.areas.specs.Interval.{Interval, Listed, Ascending}
 use Rattle.areas.specs.Shape.{WholePages, Shape}
 use Rattle.areas.specs.Areas.{limit_of, span, free_of, busy_of, areas_in, areas_of}
@@ -120,7 +120,7 @@ module _ {p : ℕ} {m : MemoryMap} (made : Made p m) where
       takes_entries m.starts m.ends m.kinds m.size
       (omega (arith, made.slots.starts, made.room)) (omega (arith, made.slots.ends, made.room)) (omega (arith, made.slots.kinds, made.room))
 
-  module _ (low high : Limit) where
+  module _ (low high : Option ℕ) where
     pub areas_of_ascends : Ascending (areas_of p low high m)
     unfolding areas_of
     areas_of_ascends = areas_ascend (limit_of p low high) (held m) held_sound

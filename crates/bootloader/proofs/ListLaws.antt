@@ -1,14 +1,15 @@
 -- The bootloader's list, judged and registered, counted as the code counts: by the number n of entries. Assumes nothing.
+use Rattle.memory.specs.declared.MapRefusal.TheVariants.{UnknownKind}
+use Rattle.entry.specs.declared.BootloaderMemoryKind.{BootloaderMemoryKind}
+use Rattle.std.specs.Prelude.{Option, Ok, Err}
 use mathlib.Core.Path.{◌≡◌}
 use mathlib.Core.Bool.{true, false}
 use mathlib.Core.List.{List}
 use Prim.Native.Nat.{ℕ, suc, ◌+◌, ◌-◌, ◌<◌, ◌≤◌}
 use native.Mathlib.Omega.{arith}
 use Rattle.page.specs.Round.{Page}
-use Rattle.entry.specs.declared.KindRead.{KindRead}
 use Rattle.entry.specs.Kind.{kind_of}
 use Rattle.memory.specs.declared.MemoryMap.{MemoryMap}
-use Rattle.memory.specs.declared.Answer.TheVariants.{Done, UnknownKind}
 use Rattle.memory.specs.declared.Registered.{Registered}
 use Rattle.memory.specs.Map.{answered, registered}
 use Rattle.memory.specs.Made.{Made}
@@ -24,18 +25,18 @@ pub known_done : (l : List ℕ) (n i : ℕ) → n ≤ i → all_of (claims_at l 
 unfolding all_of claims_at
 known_done l n i h = let e : n - i ≡ 0 = omega arith in rw e
 
-pub known_step : (l : List ℕ) (n i : ℕ) (r : KindRead) → i < n → r ≡ kind_of (claim_at l i).kind → is_known r ≡ true
+pub known_step : (l : List ℕ) (n i : ℕ) (r : Option BootloaderMemoryKind) → i < n → r ≡ kind_of (claim_at l i).kind → is_known r ≡ true
     → all_of (claims_at l (n - i) i) ≡ all_of (claims_at l (n - (i + 1)) (i + 1))
 unfolding all_of claims_at
 known_step l n i r h e k = rw (more n i h, ← e, k)
 
-pub known_stop : (l : List ℕ) (n i : ℕ) (r : KindRead) → i < n → r ≡ kind_of (claim_at l i).kind → is_known r ≡ false
+pub known_stop : (l : List ℕ) (n i : ℕ) (r : Option BootloaderMemoryKind) → i < n → r ≡ kind_of (claim_at l i).kind → is_known r ≡ false
     → all_of (claims_at l (n - i) i) ≡ false
 unfolding all_of claims_at
 known_stop l n i r h e k = rw (more n i h, ← e, k)
 
 -- ── Registering them ──
-pub all_done : (p : ℕ) (m : MemoryMap) (l : List ℕ) (n i : ℕ) → n ≤ i → registered_all p m (claims_at l (n - i) i) ≡ answered m Done
+pub all_done : (p : ℕ) (m : MemoryMap) (l : List ℕ) (n i : ℕ) → n ≤ i → registered_all p m (claims_at l (n - i) i) ≡ answered m (Ok tt)
 unfolding registered_all claims_at
 all_done p m l n i h = let e : n - i ≡ 0 = omega arith in rw e
 
@@ -50,7 +51,7 @@ pub all_stop : (p : ℕ) (m : MemoryMap) (l : List ℕ) (n i : ℕ) (r : Registe
 unfolding registered_all claims_at
 all_stop p m l n i r h e a = rw (more n i h, ← e, a)
 
-pub listed_unknown : (p : ℕ) (m : MemoryMap) (l : List ℕ) → all_known l ≡ false → listed p m l ≡ answered m UnknownKind
+pub listed_unknown : (p : ℕ) (m : MemoryMap) (l : List ℕ) → all_known l ≡ false → listed p m l ≡ answered m (Err UnknownKind)
 unfolding listed
 listed_unknown p m l e = rw e
 

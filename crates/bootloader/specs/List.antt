@@ -1,12 +1,12 @@
 -- The bootloader's list as claims: document 01, "Sources in order".
-use Rattle.std.specs.Prelude.{Bool, true, false, cond, ◌&&◌, List, [], ◌∷◌, ℕ, zero, suc, ◌+◌, ◌*◌, ◌/◌, length}
+use Rattle.memory.specs.declared.MapRefusal.TheVariants.{UnknownKind}
+use Rattle.entry.specs.declared.BootloaderMemoryKind.{BootloaderMemoryKind}
+use Rattle.std.specs.Prelude.{Bool, true, false, cond, ◌&&◌, List, [], ◌∷◌, ℕ, zero, suc, ◌+◌, ◌*◌, ◌/◌, length, Option, Some, None, Err}
 use Rattle.words.specs.Little.{eight}
-use Rattle.entry.specs.declared.KindRead.{KindRead}
-use Rattle.entry.specs.declared.KindRead.TheVariants.{Known, Unknown}
 use Rattle.entry.specs.Kind.{kind_of}
-use Rattle.entry.specs.Claim.{Claim, claim}
+use Rattle.entry.specs.declared.Claim.{Claim}
+use Rattle.entry.specs.Claim.{claim}
 use Rattle.memory.specs.declared.MemoryMap.{MemoryMap}
-use Rattle.memory.specs.declared.Answer.TheVariants.{UnknownKind}
 use Rattle.memory.specs.declared.Registered.{Registered}
 use Rattle.memory.specs.Map.{answered}
 use Rattle.memory.specs.Run.{registered_all, settled}
@@ -24,9 +24,9 @@ claims_at l (suc n) i = claim_at l i ∷ claims_at l n (i + 1)
 abbrev pub claims : List ℕ → List Claim
 claims l = claims_at l (length l / 24) 0
 
-abbrev pub is_known : KindRead → Bool
-is_known (Known k) = true
-is_known Unknown = false
+abbrev pub is_known : Option BootloaderMemoryKind → Bool
+is_known (Some k) = true
+is_known None = false
 
 -- every claim has one of the seven kinds
 unfoldable pub all_of : List Claim → Bool
@@ -38,4 +38,4 @@ all_known l = all_of (claims l)
 
 -- the list's call: refusal 1 is checked before 2, and so for the whole list before its first registration
 unfoldable pub listed : ℕ → MemoryMap → List ℕ → Registered
-listed p m l = cond (all_known l) (settled m (registered_all p m (claims l))) (answered m UnknownKind)
+listed p m l = cond (all_known l) (settled m (registered_all p m (claims l))) (answered m (Err UnknownKind))

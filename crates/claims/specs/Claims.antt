@@ -4,7 +4,8 @@ use Rattle.std.specs.Prelude.{ℕ, ◌+◌, ◌^◌, List, [], ◌∷◌, ◌++�
 use Rattle.std.proofs.Math.Option.{Option, some, none as nothing}
 use Rattle.entry.specs.declared.BootloaderMemoryKind.TheVariants.{Reserved, Device}
 use Rattle.entry.specs.Kind.{number_of}
-use Rattle.entry.specs.Claim.{Claim, claim}
+use Rattle.entry.specs.declared.Claim.{Claim}
+use Rattle.entry.specs.Claim.{claim}
 use Rattle.cells.specs.declared.CellCount.{CellCount}
 use Rattle.cells.specs.declared.Region.{Region}
 use Rattle.cells.specs.declared.Range.{Range}

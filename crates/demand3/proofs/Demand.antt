@@ -1,4 +1,6 @@
 -- Demand 3: the address rule, the shape of the areas, and that no order of the registrations matters. For every page size. Assumes nothing.
+use Rattle.areas.specs.declared.AreasRefusal.{AreasRefusal}
+use Rattle.std.specs.Prelude.{Option, Some, None, ℕ, Result}
 use mathlib.Core.Path.{◌≡◌, refl, ap, sym, ◌∙◌}
 use mathlib.Core.List.{List}
 use mathlib.Core.Logic.{◌↔◌}
@@ -10,7 +12,7 @@ use Rattle.entry.specs.declared.MemoryEntry.{MemoryEntry}
 use Rattle.entry.specs.declared.BootloaderMemoryKind.TheVariants.{Free}
 use Rattle.entry.specs.Kind.{number_of}
 use Rattle.entry.specs.Entry.{entry}
-use Rattle.entry.specs.Claim.{Claim}
+use Rattle.entry.specs.declared.Claim.{Claim}
 use Rattle.entry.proofs.ClaimLaws.{rounded_kind, free_inward, other_outward}
 use Rattle.memory.specs.declared.MemoryMap.{MemoryMap}
 use Rattle.memory.specs.Map.{slots_of, at, blank}
@@ -20,9 +22,6 @@ use Rattle.memory.proofs.RunLaws.{all_made}
 use Rattle.listing.specs.Listing.{held}
 use Rattle.runs.specs.Sets.{Registers, Some}
 use Rattle.runs.proofs.Sets.{plain_sets}
-use Rattle.areas.specs.declared.Limit.{Limit}
-use Rattle.areas.specs.declared.Limit.TheVariants.{At, Missing}
-use Rattle.areas.specs.declared.Built.{Built}
 use Rattle.areas.specs.Interval.{Interval, Listed}
 use Rattle.areas.specs.Shape.{Shape}
 use Rattle.areas.specs.Areas.{or_else, limit_of, areas_in, areas_of}
@@ -93,7 +92,7 @@ module _ (p : ℕ) (cs : List Claim) (g : Page p) (done : Accepted p cs) (x : �
   )
 
 -- THEOREM 2, the address rule of demand 3
-pub address_rule : (p : ℕ) (low high : Limit) (cs : List Claim) → Page p → Accepted p cs → (x : ℕ)
+pub address_rule : (p : ℕ) (low high : Option ℕ) (cs : List Claim) → Page p → Accepted p cs → (x : ℕ)
     → Listed x (areas_after p low high cs) ↔ Rule p low high cs x
 unfolding limit_of
 address_rule p low high cs g done x =
@@ -105,14 +104,14 @@ address_rule p low high cs g done x =
     )
 
 -- THEOREM 3, the shape of the areas: they ascend, are nonempty whole pages, never touch, and end at T at most
-pub areas_shape : (p : ℕ) (low high : Limit) (cs : List Claim) → Page p → Shape p (areas_after p low high cs)
+pub areas_shape : (p : ℕ) (low high : Option ℕ) (cs : List Claim) → Page p → Shape p (areas_after p low high cs)
 areas_shape p low high cs g = areas_of_shape (after_made p cs g) low high g
 
 -- ── Any order ──
 some_same : (P : Claim → Type 0) (cs ds : List Claim) → SameClaims cs ds → Some P cs → Some P ds
 some_same P cs ds e s = record { claim = s.claim; among = (e s.claim).0 s.among; is = s.is }
 
-rule_same : (p : ℕ) (low high : Limit) (cs ds : List Claim) (x : ℕ) → SameClaims cs ds → Rule p low high cs x → Rule p low high ds x
+rule_same : (p : ℕ) (low high : Option ℕ) (cs ds : List Claim) (x : ℕ) → SameClaims cs ds → Rule p low high cs x → Rule p low high ds x
 rule_same p low high cs ds x e r =
     record {
       from = r.from;
@@ -121,7 +120,7 @@ rule_same p low high cs ds x e r =
       others = λ s. r.others (some_same _ ds cs (λ c. ((e c).1, (e c).0)) s);
     }
 
-same_order : (p : ℕ) (low high : Limit) (cs ds : List Claim) → Page p → Accepted p cs → Accepted p ds → SameClaims cs ds
+same_order : (p : ℕ) (low high : Option ℕ) (cs ds : List Claim) → Page p → Accepted p cs → Accepted p ds → SameClaims cs ds
     → areas_after p low high cs ≡ areas_after p low high ds
 same_order p low high cs ds g a b e =
     one_list _ _ (areas_shape p low high cs g).ascend (areas_shape p low high ds g).ascend
@@ -137,17 +136,17 @@ top_under : (p : ℕ) → Page p → top p + p ≡ 2 ^ 64
 unfolding top
 top_under p g = omega (arith, g.small)
 
-same_limits : (p : ℕ) (low high low' high' : Limit) (m : MemoryMap) → SameLimits p low high low' high' → areas_of p low high m ≡ areas_of p low' high' m
+same_limits : (p : ℕ) (low high low' high' : Option ℕ) (m : MemoryMap) → SameLimits p low high low' high' → areas_of p low high m ≡ areas_of p low' high' m
 unfolding areas_of
 same_limits p low high low' high' m e = ap (λ (limits : MemoryEntry). areas_in limits (held m)) e
 
 -- a missing low is a low of 0
-pub missing_low : (p : ℕ) (high : Limit) → SameLimits p Missing high (At 0) high
+pub missing_low : (p : ℕ) (high : Option ℕ) → SameLimits p None high (Some 0) high
 unfolding limit_of
 missing_low p high = refl
 
 -- a missing high is any high in the top page
-pub missing_high : (p : ℕ) (low : Limit) (x : ℕ) → Page p → top p ≤ x → x < 2 ^ 64 → SameLimits p low Missing low (At x)
+pub missing_high : (p : ℕ) (low : Option ℕ) (x : ℕ) → Page p → top p ≤ x → x < 2 ^ 64 → SameLimits p low None low (Some x)
 unfolding limit_of
 missing_high p low x g from to = ap (λ (end : ℕ). entry (up p (or_else low 0)) end (number_of Free)) (at_top (2 ^ 64 - 1) last (omega arith) ∙ sym (at_top x from to))
   where
@@ -162,14 +161,14 @@ missing_high p low x g from to = ap (λ (end : ℕ). entry (up p (or_else low 0)
           page_gap p (down p y) (top p) (down_aligned p y) (top_aligned p g) (omega (arith, down_le p y, top_under p g)),
         )
 
-module _ (p : ℕ) (low high low' high' : Limit) (cs ds : List Claim) (g : Page p) (a : Accepted p cs) (b : Accepted p ds)
+module _ (p : ℕ) (low high low' high' : Option ℕ) (cs ds : List Claim) (g : Page p) (a : Accepted p cs) (b : Accepted p ds)
     (limits : SameLimits p low high low' high') (e : SameClaims cs ds) where
   -- THEOREM 4, any order: the same registrations in any two orders, none refused, under limits that round to the same, give the same areas
   pub any_order : areas_after p low high cs ≡ areas_after p low' high' ds
   any_order = same_order p low high cs ds g a b e ∙ same_limits p low high low' high' (map_after p ds) limits
 
   -- so two builds answer alike, and leave the same in the same slots, whatever form these have
-  any_order_lent : {A : Type 0} (f : Form A) (l l₁ l₂ : List A) (r₁ r₂ : Built)
+  any_order_lent : {A : Type 0} (f : Form A) (l l₁ l₂ : List A) (r₁ r₂ : Result ℕ AreasRefusal)
       → BuildsIn f (areas_after p low high cs) l l₁ r₁ → BuildsIn f (areas_after p low' high' ds) l l₂ r₂ → (r₁ ≡ r₂) × (l₁ ≡ l₂)
   any_order_lent f l l₁ l₂ r₁ r₂ x y = (
     x.answer ∙ ap (λ (areas : List Interval). answer_for (f.slots l) areas) any_order ∙ sym y.answer,
@@ -177,11 +176,11 @@ module _ (p : ℕ) (low high low' high' : Limit) (cs ds : List Claim) (g : Page 
   )
 
   -- "the finished areas are the same bytes each time": the same numbers
-  pub any_order_built : (l l₁ l₂ : List ℕ) (r₁ r₂ : Built)
+  pub any_order_built : (l l₁ l₂ : List ℕ) (r₁ r₂ : Result ℕ AreasRefusal)
       → Builds p (map_after p cs) low high l l₁ r₁ → Builds p (map_after p ds) low' high' l l₂ r₂ → (r₁ ≡ r₂) × (l₁ ≡ l₂)
   any_order_built l l₁ l₂ r₁ r₂ x y = any_order_lent numbers l l₁ l₂ r₁ r₂ (in_numbers x) (in_numbers y)
 
   -- and the same records
-  pub any_order_row : (row row₁ row₂ : List MemoryArea) (r₁ r₂ : Built)
+  pub any_order_row : (row row₁ row₂ : List MemoryArea) (r₁ r₂ : Result ℕ AreasRefusal)
       → BuildsRow p (map_after p cs) low high row row₁ r₁ → BuildsRow p (map_after p ds) low' high' row row₂ r₂ → (r₁ ≡ r₂) × (row₁ ≡ row₂)
   any_order_row row row₁ row₂ r₁ r₂ x y = any_order_lent records row row₁ row₂ r₁ r₂ (in_records x) (in_records y)

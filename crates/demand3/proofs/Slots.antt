@@ -1,5 +1,6 @@
 -- Demand 3 on the slots that a caller holds: proved once, for any slots of which number i reaches over the i-th area, and then for lent
 -- numbers and for a lent row of records. Assumes nothing.
+use Rattle.std.specs.Prelude.{Option, ℕ, Ok}
 use mathlib.Core.Path.{◌≡◌, refl, ◌∙◌, ap}
 use mathlib.Core.List.{List, [], ◌∷◌, ◌++◌, map, Memᴰ}
 use mathlib.Core.Logic.{◌↔◌, inl, inr}
@@ -7,9 +8,7 @@ use Prim.Native.Nat.{ℕ, zero, suc, ◌+◌, ◌-◌, ◌≤◌, ◌<◌}
 use native.Mathlib.Omega.{arith}
 use lib.ListN.{length, get_or, length-map, get_or-append, get_or-map}
 use Rattle.page.specs.Round.{Page}
-use Rattle.entry.specs.Claim.{Claim}
-use Rattle.areas.specs.declared.Limit.{Limit}
-use Rattle.areas.specs.declared.Built.TheVariants.{Done}
+use Rattle.entry.specs.declared.Claim.{Claim}
 use Rattle.areas.specs.Interval.{Interval, interval, Inside, Listed, Above}
 use Rattle.areas.specs.Shape.{Shape}
 use Rattle.areas.specs.Table.{Form, BuildsIn, flat, numbers, Builds}
@@ -93,7 +92,7 @@ module _ (areas : List Interval) (slot : ℕ → MemoryArea)
     pub held_apart : (i : ℕ) → suc i < length areas → (slot i).base + (slot i).size < (slot (suc i)).base
     held_apart i h = omega (arith, nth_apart areas 0 i shape.ascend h, end_is i (omega arith), base_is (suc i) h)
 
-    pub held_right : {low high : Limit} {cs : List Claim} → ((x : ℕ) → Listed x areas ↔ Rule p low high cs x) → SlotsRight p low high cs slot (length areas)
+    pub held_right : {low high : (Option ℕ)} {cs : List Claim} → ((x : ℕ) → Listed x areas ↔ Rule p low high cs x) → SlotsRight p low high cs slot (length areas)
     held_right rule =
         record {
           rule = λ x. let l = held_listed x in let r = rule x in (λ s. r.0 (l.0 s), λ s. l.1 (r.1 s));
@@ -112,8 +111,8 @@ reaches {p} {areas} shape a i h e =
 -- ── A build that is done ──
 module _ {A : Type 0} (f : Form A) (slot : List A → ℕ → MemoryArea)
     (reads : (areas : List Interval) (rest : List A) (i : ℕ) → i < length areas → slot (f.written areas ++ rest) i ≡ area_of (nth areas i)) where
-  built_right : (p : ℕ) (low high : Limit) (cs : List Claim) → Page p → Accepted p cs → {l l' : List A} {n : ℕ}
-      → BuildsIn f (areas_after p low high cs) l l' (Done n) → SlotsRight p low high cs (slot l') n
+  built_right : (p : ℕ) (low high : Option ℕ) (cs : List Claim) → Page p → Accepted p cs → {l l' : List A} {n : ℕ}
+      → BuildsIn f (areas_after p low high cs) l l' (Ok n) → SlotsRight p low high cs (slot l') n
   built_right p low high cs g done {l} {l'} {n} b =
       let areas = areas_after p low high cs in
       let a = answers b in
@@ -132,12 +131,12 @@ records_read : (areas : List Interval) (rest : List MemoryArea) (i : ℕ) → i 
 records_read areas rest i h =
     get_or-append (map area_of areas) rest (area_of none) i (omega (arith, length-map areas area_of)) ∙ get_or-map area_of areas i none
 
-module _ (p : ℕ) (low high : Limit) (cs : List Claim) (g : Page p) (done : Accepted p cs) {n : ℕ} where
+module _ (p : ℕ) (low high : Option ℕ) (cs : List Claim) (g : Page p) (done : Accepted p cs) {n : ℕ} where
   -- THEOREM 5, demand 3 on the slots: after a build that is done, the address rule holds of the numbers in the first n slots, which are
   -- nonempty whole pages, do not wrap, ascend and never touch
-  pub build_slots : {l l' : List ℕ} → Builds p (map_after p cs) low high l l' (Done n) → SlotsRight p low high cs (number_slot l') n
+  pub build_slots : {l l' : List ℕ} → Builds p (map_after p cs) low high l l' (Ok n) → SlotsRight p low high cs (number_slot l') n
   build_slots b = built_right numbers number_slot numbers_read p low high cs g done (in_numbers b)
 
   -- the same of the first n records of a lent row
-  pub row_slots : {row row' : List MemoryArea} → BuildsRow p (map_after p cs) low high row row' (Done n) → SlotsRight p low high cs (record_slot row') n
+  pub row_slots : {row row' : List MemoryArea} → BuildsRow p (map_after p cs) low high row row' (Ok n) → SlotsRight p low high cs (record_slot row') n
   row_slots b = built_right records record_slot records_read p low high cs g done (in_records b)

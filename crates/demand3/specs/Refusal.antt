@@ -1,12 +1,11 @@
 -- Refusal 3, on its number, and what is written: stated once for every form of slots.
-use Rattle.std.specs.Prelude.{◌≡◌, List, ◌++◌, ◌↔◌, ◌≤◌, ◌<◌, length, drop}
-use Rattle.areas.specs.declared.Built.{Built}
-use Rattle.areas.specs.declared.Built.TheVariants.{Done}
+use Rattle.areas.specs.declared.AreasRefusal.{AreasRefusal}
+use Rattle.std.specs.Prelude.{◌≡◌, List, ◌++◌, ◌↔◌, ◌≤◌, ◌<◌, length, drop, Result, Ok}
 use Rattle.areas.specs.Interval.{Interval}
 use Rattle.areas.specs.Table.{built_number, Form}
 
 -- what a build of these areas into lent items l answers, where they are l' afterwards
-pub record Answers {A : Type 0} (f : Form A) (areas : List Interval) (l l' : List A) (r : Built) : Type 0 where
+pub record Answers {A : Type 0} (f : Form A) (areas : List Interval) (l l' : List A) (r : Result ℕ AreasRefusal) : Type 0 where
   -- 3: "Refused exactly when there are more areas than slots."
   pub refused : (built_number r ≡ 3) ↔ (f.slots l < length areas)
   -- "0 is done."
@@ -14,5 +13,5 @@ pub record Answers {A : Type 0} (f : Form A) (areas : List Interval) (l l' : Lis
   -- "A refused .. build .. writes nothing."
   pub nothing : built_number r ≡ 3 → l' ≡ l
   -- a build that is done counts the areas, and has written them; "all past the count is untouched"
-  pub count : built_number r ≡ 0 → r ≡ Done (length areas)
+  pub count : built_number r ≡ 0 → r ≡ Ok (length areas)
   pub writes : built_number r ≡ 0 → l' ≡ f.written areas ++ drop (f.items (length areas)) l

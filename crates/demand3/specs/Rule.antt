@@ -1,29 +1,28 @@
 -- Demand 3, stated from the registrations and not from the map.
-use Rattle.std.specs.Prelude.{◌≡◌, ◌↔◌, ℕ, ◌-◌, ◌^◌, ◌≤◌, ◌<◌}
+use Rattle.std.specs.Prelude.{◌≡◌, ◌↔◌, ℕ, ◌-◌, ◌^◌, ◌≤◌, ◌<◌, Option, Some, Ok}
 use mathlib.Core.List.{List, Memᴰ}
 use Rattle.page.specs.Round.{down, up}
 use Rattle.entry.specs.declared.BootloaderMemoryKind.TheVariants.{Null, Free}
 use Rattle.entry.specs.Kind.{number_of}
 use Rattle.entry.specs.Entry.{Has}
-use Rattle.entry.specs.Claim.{Claim, inward, outward}
+use Rattle.entry.specs.declared.Claim.{Claim}
+use Rattle.entry.specs.Claim.{inward, outward}
 use Rattle.memory.specs.declared.MemoryMap.{MemoryMap}
-use Rattle.memory.specs.declared.Answer.TheVariants.{Done}
 use Rattle.memory.specs.Map.{blank}
 use Rattle.memory.specs.Run.{registered_all}
 use Rattle.runs.specs.Sets.{Some}
-use Rattle.areas.specs.declared.Limit.{Limit}
 use Rattle.areas.specs.Interval.{Interval}
 use Rattle.areas.specs.Areas.{or_else, limit_of, areas_of}
 
 -- "If no call is refused": the run from the empty map, one registration after the other, is done
 abbrev pub Accepted : ℕ → List Claim → Type 0
-Accepted p cs = (registered_all p blank cs).answer ≡ Done
+Accepted p cs = (registered_all p blank cs).answer ≡ (Ok tt)
 
 -- the map after the run, and its finished areas
 abbrev pub map_after : ℕ → List Claim → MemoryMap
 map_after p cs = (registered_all p blank cs).map
 
-abbrev pub areas_after : ℕ → Limit → Limit → List Claim → List Interval
+abbrev pub areas_after : ℕ → Option ℕ → Option ℕ → List Claim → List Interval
 areas_after p low high cs = areas_of p low high (map_after p cs)
 
 -- "inside some single Free registration rounded inward by itself"; "Size 0 .. register nothing"
@@ -41,7 +40,7 @@ pub record OtherOver (p x : ℕ) (c : Claim) : Type 0 where
 
 -- "An address lies in a listed area exactly when it is inside the limits rounded inward, inside some single Free
 -- registration rounded inward by itself, and inside no registration of another kind rounded outward."
-pub record Rule (p : ℕ) (low high : Limit) (cs : List Claim) (x : ℕ) : Type 0 where
+pub record Rule (p : ℕ) (low high : Option ℕ) (cs : List Claim) (x : ℕ) : Type 0 where
   pub from : up p (or_else low 0) ≤ x
   pub to : x < down p (or_else high (2 ^ 64 - 1))
   pub free : Some (FreeOver p x) cs
@@ -53,5 +52,5 @@ SameClaims cs ds = (c : Claim) → Memᴰ c cs ↔ Memᴰ c ds
 
 -- "under the same limits": two pairs that round to the same, as a missing low does with 0, and a missing high with any in the top page
 -- (Demand.missing_low, missing-high)
-abbrev pub SameLimits : ℕ → Limit → Limit → Limit → Limit → Type 0
+abbrev pub SameLimits : ℕ → Option ℕ → Option ℕ → Option ℕ → Option ℕ → Type 0
 SameLimits p low high low' high' = limit_of p low high ≡ limit_of p low' high'

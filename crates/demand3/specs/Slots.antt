@@ -1,8 +1,7 @@
 -- Demand 3 on what a caller holds after a build: so many slots, each with a base and a size.
-use Rattle.std.specs.Prelude.{List, ◌↔◌, ℕ, suc, ◌+◌, ◌≤◌, ◌<◌, get_or}
+use Rattle.std.specs.Prelude.{List, ◌↔◌, ℕ, suc, ◌+◌, ◌≤◌, ◌<◌, get_or, Option}
 use Rattle.page.specs.Round.{top, Aligned}
-use Rattle.entry.specs.Claim.{Claim}
-use Rattle.areas.specs.declared.Limit.{Limit}
+use Rattle.entry.specs.declared.Claim.{Claim}
 use Rattle.lent_areas.specs.declared.MemoryArea.{MemoryArea}
 use Rattle.lent_areas.specs.Row.{area_at}
 use Rattle.demand3.specs.Rule.{Rule}
@@ -30,7 +29,7 @@ pub record WholeSlot (p : ℕ) (a : MemoryArea) : Type 0 where
   pub low : a.base + a.size ≤ top p
 
 -- the first n slots are as demand 3 says of the registrations cs
-pub record SlotsRight (p : ℕ) (low high : Limit) (cs : List Claim) (slot : ℕ → MemoryArea) (n : ℕ) : Type 0 where
+pub record SlotsRight (p : ℕ) (low high : Option ℕ) (cs : List Claim) (slot : ℕ → MemoryArea) (n : ℕ) : Type 0 where
   -- "An address lies in a listed area exactly when .."
   pub rule : (x : ℕ) → ListedIn slot n x ↔ Rule p low high cs x
   -- "Areas ascend, are nonempty whole pages, and never touch."

@@ -1,4 +1,6 @@
 -- The tree's call, by what opening and judging say; and that it makes a map again. Assumes nothing.
+use Rattle.dtb.specs.declared.TreeRefusal.TheVariants.{MapFull}
+use Rattle.std.specs.Prelude.{Ok, Err}
 use mathlib.Core.Path.{◌≡◌, sym, ◌∙◌, ap}
 use mathlib.Core.Bool.{Bool, true, false, cond}
 use mathlib.Core.List.{List}
@@ -24,15 +26,14 @@ use Rattle.claims.specs.declared.Judged.{Judged}
 use Rattle.claims.specs.declared.Judged.TheVariants.{Sound, UnreadableReg as NoReg, UnreadableRanges as NoRanges}
 use Rattle.claims.specs.Claims.{claims_of}
 use Rattle.claims.specs.Judging.{judged_of}
-use Rattle.dtb.specs.declared.TreeAnswer.TheVariants.{Done, MapFull}
 use Rattle.dtb.specs.Call.{tree_answered, settled_tree, judged_call, opened_call, tree_registered}
 
 -- what a run of the claims comes to
-pub settled_done : (m : MemoryMap) (r : Registered) → is_done r.answer ≡ true → settled_tree m r ≡ tree_answered r.map Done
+pub settled_done : (m : MemoryMap) (r : Registered) → is_done r.answer ≡ true → settled_tree m r ≡ tree_answered r.map (Ok tt)
 unfolding settled_tree
 settled_done m r e = rw e
 
-pub settled_refused : (m : MemoryMap) (r : Registered) → is_done r.answer ≡ false → settled_tree m r ≡ tree_answered m MapFull
+pub settled_refused : (m : MemoryMap) (r : Registered) → is_done r.answer ≡ false → settled_tree m r ≡ tree_answered m (Err MapFull)
 unfolding settled_tree
 settled_refused m r e = rw e
 
@@ -74,7 +75,7 @@ settled_made : (p : ℕ) (m : MemoryMap) (r : Registered) → Made p m → Made 
 unfolding settled_tree
 settled_made p m r g h = go (is_done r.answer)
   where
-    go : (t : Bool) → Made p (cond t (tree_answered r.map Done) (tree_answered m MapFull)).map
+    go : (t : Bool) → Made p (cond t (tree_answered r.map (Ok tt)) (tree_answered m (Err MapFull))).map
     go true = h
     go false = g
 

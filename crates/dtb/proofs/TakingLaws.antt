@@ -1,4 +1,5 @@
 -- A run of registrations that takes its claims from what is left to claim, one step at a time. Assumes nothing.
+use Rattle.std.specs.Prelude.{Ok}
 use mathlib.Core.Path.{◌≡◌, refl, sym, ◌∙◌, subst}
 use mathlib.Core.Bool.{Bool, true, false}
 use mathlib.Core.List.{List, [], ◌∷◌}
@@ -6,10 +7,10 @@ use mathlib.Core.Option.{Option, some, none as nothing}
 use Prim.Native.Nat.{ℕ, ◌<◌}
 use native.Mathlib.Omega.{arith}
 use lib.ListN.{length}
-use Rattle.entry.specs.Claim.{Claim, claim}
+use Rattle.entry.specs.declared.Claim.{Claim}
+use Rattle.entry.specs.Claim.{claim}
 use Rattle.subtree.specs.Subtree.{Stands}
 use Rattle.memory.specs.declared.MemoryMap.{MemoryMap}
-use Rattle.memory.specs.declared.Answer.TheVariants.{Done}
 use Rattle.memory.specs.declared.Registered.{Registered}
 use Rattle.memory.specs.Map.{answered, registered}
 use Rattle.memory.specs.Run.{is_done, registered_all}
@@ -35,7 +36,7 @@ shorter l s o e = rw e (omega arith)
 
 module _ (p : ℕ) (m : MemoryMap) (l : List (Option Claim)) where
   -- nothing is left
-  pub take_end : l ≡ [] → registered_all p m (claims_in l) ≡ answered m Done
+  pub take_end : l ≡ [] → registered_all p m (claims_in l) ≡ answered m (Ok tt)
   unfolding registered_all claims_in
   take_end e = rw e
 

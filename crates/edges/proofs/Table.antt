@@ -1,4 +1,5 @@
 -- Document 01, "Edges to prove (one table)": rounding, the map, the reservation block, the limits and the window, each computed. Assumes nothing.
+use Rattle.std.specs.Prelude.{Option, Some, None, ℕ}
 use mathlib.Core.Path.{◌≡◌, refl}
 use mathlib.Core.List.{List, [], ◌∷◌}
 use mathlib.Core.Bool.{true, false}
@@ -9,12 +10,11 @@ use Rattle.entry.specs.declared.BootloaderMemoryKind.{BootloaderMemoryKind}
 use Rattle.entry.specs.declared.BootloaderMemoryKind.TheVariants.{Free, Reserved}
 use Rattle.entry.specs.Kind.{number_of, kind_of}
 use Rattle.entry.specs.Entry.{entry, overlap, meet, union, join}
-use Rattle.entry.specs.Claim.{Claim, claim, inward, outward, rounded}
+use Rattle.entry.specs.declared.Claim.{Claim}
+use Rattle.entry.specs.Claim.{claim, inward, outward, rounded}
 use Rattle.memory.specs.Map.{at, put, blank, absorb, look, pass, begin, ended, placed, inserted, nothing, registered}
 use Rattle.memory.specs.Run.{registered_all}
 use Rattle.listing.specs.Listing.{entries_from, held, those}
-use Rattle.areas.specs.declared.Limit.{Limit}
-use Rattle.areas.specs.declared.Limit.TheVariants.{At, Missing}
 use Rattle.areas.specs.Interval.{Interval, interval}
 use Rattle.areas.specs.Carve.{cut_by, walk, carve_by, carve}
 use Rattle.areas.specs.Areas.{limit_of, pieces, insert, sort, areas_in, areas_of}
@@ -31,14 +31,14 @@ use Rattle.demand3.specs.Rule.{Accepted, map_after, areas_after}
 -- the reservation block, what it claims, and the entries that the map holds then; or a range and a region, and where the soc window and
 -- translation take it
 pub data Row : Type 0 where
-  registering : List Claim → Limit → Limit → List MemoryEntry → List Interval → Row
+  registering : List Claim → Option ℕ → Option ℕ → List MemoryEntry → List Interval → Row
   reserving : Region → List Claim → List MemoryEntry → Row
   crossing : Range → ℕ → ℕ → Window → Window → Row
 
 -- every row is right
 pub data All : List Row → Type 0 where
   end : All []
-  run : {cs : List Claim} {low high : Limit} {es : List MemoryEntry} {is : List Interval} {rs : List Row}
+  run : {cs : List Claim} {low high : (Option ℕ)} {es : List MemoryEntry} {is : List Interval} {rs : List Row}
       → Accepted 4096 cs → held (map_after 4096 cs) ≡ es → areas_after 4096 low high cs ≡ is → All rs → All (registering cs low high es is ∷ rs)
   reserved : {r : Region} {cs : List Claim} {es : List MemoryEntry} {rs : List Row}
       → block_claims (r ∷ []) ≡ cs → Accepted 4096 cs → held (map_after 4096 cs) ≡ es → All rs → All (reserving r cs es ∷ rs)
@@ -47,7 +47,7 @@ pub data All : List Row → Type 0 where
 
 -- a run without limits
 abbrev plain : List Claim → List MemoryEntry → List Interval → Row
-plain cs es is = registering cs Missing Missing es is
+plain cs es is = registering cs None None es is
 
 abbrev of : BootloaderMemoryKind → ℕ → ℕ → Claim
 of k base size = claim base size (number_of k)
@@ -73,7 +73,7 @@ table =
     ∷ plain (of Reserved 0xffffffffffffe000 (2 ^ 64 - 1) ∷ []) (spans Reserved 0xffffffffffffe000 (2 ^ 64 - 4096) ∷ []) []
     ∷ block_at_top 0x1000 []
     ∷ block_at_top 0xfff (of Reserved (2 ^ 64 - 4096) 0xfff ∷ [])
-    ∷ registering (of Free 0 0x10000 ∷ []) (At 1) (At 0x1fff) (spans Free 0 0x10000 ∷ []) []
+    ∷ registering (of Free 0 0x10000 ∷ []) (Some 1) (Some 0x1fff) (spans Free 0 0x10000 ∷ []) []
     ∷ at_end 9 (To 0x40000ff8) Nowhere
     ∷ at_end 8 (To 0x40000ff8) (To 0x40000ff8)
     ∷ at_end 10 Nowhere Nowhere

@@ -9,7 +9,8 @@ use Rattle.page.proofs.Laws.{down_aligned, up_aligned, up_le_top, ending_low}
 use Rattle.entry.specs.declared.MemoryEntry.{MemoryEntry}
 use Rattle.entry.specs.declared.BootloaderMemoryKind.TheVariants.{Free}
 use Rattle.entry.specs.Kind.{number_of}
-use Rattle.entry.specs.Claim.{Claim, inward, outward, rounded}
+use Rattle.entry.specs.declared.Claim.{Claim}
+use Rattle.entry.specs.Claim.{inward, outward, rounded}
 
 pub free_inward : (p : ℕ) (c : Claim) → c.kind ≡ number_of Free → rounded p c ≡ inward p c
 unfolding rounded

@@ -1,4 +1,5 @@
 -- Two entries that overlap or touch, and their union, as facts on addresses. Assumes nothing.
+use Rattle.std.specs.Prelude.{Option, Some, None}
 use mathlib.Core.Path.{◌≡◌, refl}
 use mathlib.Core.Bool.{Bool, true, false, cond, ◌&&◌}
 use mathlib.Core.Logic.{◌⊎◌, inl, inr, ⊎_elim, ◌↔◌}
@@ -7,20 +8,18 @@ use native.Mathlib.Omega.{arith}
 use lib.Dec.{leb, ltb}
 use borrow.Author.Tests.{le-leb, leb-true, leb-false, ltb-true, ltb-false}
 use Rattle.entry.specs.declared.MemoryEntry.{MemoryEntry}
-use Rattle.entry.specs.declared.FoundEntry.{FoundEntry}
-use Rattle.entry.specs.declared.FoundEntry.TheVariants.{Entry, Nothing}
 use Rattle.entry.specs.Entry.{Has, overlap, meet, Touch, union, join}
 
 -- the two ways that a cut goes
-pub data Meets (a b : MemoryEntry) : FoundEntry → Type 0 where
-  some : (overlap a b).start < (overlap a b).end → Meets a b (Entry (overlap a b))
-  none : (overlap a b).end ≤ (overlap a b).start → Meets a b Nothing
+pub data Meets (a b : MemoryEntry) : Option MemoryEntry → Type 0 where
+  some : (overlap a b).start < (overlap a b).end → Meets a b (Some (overlap a b))
+  none : (overlap a b).end ≤ (overlap a b).start → Meets a b None
 
 pub meets : (a b : MemoryEntry) → Meets a b (meet a b)
 unfolding meet
 meets a b = go (ltb (overlap a b).start (overlap a b).end) refl
   where
-    go : (t : Bool) → ltb (overlap a b).start (overlap a b).end ≡ t → Meets a b (cond t (Entry (overlap a b)) Nothing)
+    go : (t : Bool) → ltb (overlap a b).start (overlap a b).end ≡ t → Meets a b (cond t (Some (overlap a b)) None)
     go true e = some (ltb-true _ _ e)
     go false e = none (ltb-false _ _ e)
 
@@ -33,27 +32,27 @@ overlap_has a b x = (
 )
 
 -- the two ways that combining goes
-pub data Joins (a b : MemoryEntry) : FoundEntry → Type 0 where
-  one : Touch a b → Joins a b (Entry (union a b))
-  two : (Touch a b → ⊥) → Joins a b Nothing
+pub data Joins (a b : MemoryEntry) : Option MemoryEntry → Type 0 where
+  one : Touch a b → Joins a b (Some (union a b))
+  two : (Touch a b → ⊥) → Joins a b None
 
 pub joins : (a b : MemoryEntry) → Joins a b (join a b)
 unfolding join
 joins a b = go (leb a.start b.end) (leb b.start a.end) refl refl
   where
-    go : (s t : Bool) → leb a.start b.end ≡ s → leb b.start a.end ≡ t → Joins a b (cond (s && t) (Entry (union a b)) Nothing)
+    go : (s t : Bool) → leb a.start b.end ≡ s → leb b.start a.end ≡ t → Joins a b (cond (s && t) (Some (union a b)) None)
     go true true e f = one (record { low = leb-true _ _ e; high = leb-true _ _ f })
     go true false e f = two (λ u. omega (arith, leb-false b.start a.end f, u.high))
     go false t e f = two (λ u. omega (arith, leb-false a.start b.end e, u.low))
 
-pub touch_joins : (a b : MemoryEntry) → Touch a b → Entry (union a b) ≡ join a b
+pub touch_joins : (a b : MemoryEntry) → Touch a b → Some (union a b) ≡ join a b
 unfolding join
 touch_joins a b t = rw (le-leb _ _ t.low, le-leb _ _ t.high)
 
-pub gap_joins : (a b : MemoryEntry) → (Touch a b → ⊥) → Nothing ≡ join a b
+pub gap_joins : (a b : MemoryEntry) → (Touch a b → ⊥) → None ≡ join a b
 gap_joins a b n = go (join a b) (joins a b)
   where
-    go : (r : FoundEntry) → Joins a b r → Nothing ≡ r
+    go : (r : Option MemoryEntry) → Joins a b r → None ≡ r
     go r (one t) = absurd (n t)
     go r (two q) = refl
 

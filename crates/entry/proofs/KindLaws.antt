@@ -1,4 +1,5 @@
 -- kind_of finds the kind that has a number, exactly where one has it. Assumes nothing.
+use Rattle.std.specs.Prelude.{Option, Some, None}
 use mathlib.Core.Path.{◌≡◌, refl, sym}
 use mathlib.Core.Bool.{Bool, true, false, cond}
 use Prim.Native.Nat.{ℕ}
@@ -7,20 +8,18 @@ use lib.Dec.{eqb}
 use borrow.Author.Tests.{eqb-true, eqb-false}
 use Rattle.entry.specs.declared.BootloaderMemoryKind.{BootloaderMemoryKind}
 use Rattle.entry.specs.declared.BootloaderMemoryKind.TheVariants.{Null, Free, Reclaim, Reserved, Kernel, Device, IdentityMap}
-use Rattle.entry.specs.declared.KindRead.{KindRead}
-use Rattle.entry.specs.declared.KindRead.TheVariants.{Known, Unknown}
 use Rattle.entry.specs.Kind.{number_of, IsKind, kind_of}
 
 -- the two ways that reading a number goes
-pub data Reads (n : ℕ) : KindRead → Type 0 where
-  known : (k : BootloaderMemoryKind) → number_of k ≡ n → Reads n (Known k)
-  unknown : (IsKind n → ⊥) → Reads n Unknown
+pub data Reads (n : ℕ) : Option BootloaderMemoryKind → Type 0 where
+  known : (k : BootloaderMemoryKind) → number_of k ≡ n → Reads n (Some k)
+  unknown : (IsKind n → ⊥) → Reads n None
 
-test : (n : ℕ) (k : BootloaderMemoryKind) (rest : KindRead) → ((n ≡ number_of k → ⊥) → Reads n rest)
-    → Reads n (cond (eqb n (number_of k)) (Known k) rest)
+test : (n : ℕ) (k : BootloaderMemoryKind) (rest : Option BootloaderMemoryKind) → ((n ≡ number_of k → ⊥) → Reads n rest)
+    → Reads n (cond (eqb n (number_of k)) (Some k) rest)
 test n k rest f = go (eqb n (number_of k)) refl
   where
-    go : (t : Bool) → eqb n (number_of k) ≡ t → Reads n (cond t (Known k) rest)
+    go : (t : Bool) → eqb n (number_of k) ≡ t → Reads n (cond t (Some k) rest)
     go true e = known k (sym (eqb-true _ _ e))
     go false e = f (eqb-false _ _ e)
 
@@ -50,15 +49,15 @@ reads n =
     unknown (none_of n a b c d e f g))))))))
 
 -- what is read is the kind that has the number
-pub known_number : (n : ℕ) (k : BootloaderMemoryKind) → kind_of n ≡ Known k → number_of k ≡ n
+pub known_number : (n : ℕ) (k : BootloaderMemoryKind) → kind_of n ≡ Some k → number_of k ≡ n
 known_number n k e = go (kind_of n) (reads n) e
   where
-    go : (r : KindRead) → Reads n r → r ≡ Known k → number_of k ≡ n
+    go : (r : Option BootloaderMemoryKind) → Reads n r → r ≡ Some k → number_of k ≡ n
     go r (known j q) f = let same : j ≡ k = cc in rw (sym same) q
     go r (unknown q) f = absurd (let z : ◌≡◌ {A = ℕ} 0 1 = cc in omega arith)
 
 -- every kind is read from its number
-pub number_known : (k : BootloaderMemoryKind) → kind_of (number_of k) ≡ Known k
+pub number_known : (k : BootloaderMemoryKind) → kind_of (number_of k) ≡ Some k
 unfolding kind_of
 number_known Null = refl
 number_known Free = refl
@@ -68,20 +67,20 @@ number_known Kernel = refl
 number_known Device = refl
 number_known IdentityMap = refl
 
-pub known_at : (k : BootloaderMemoryKind) (n : ℕ) → n ≡ number_of k → Known k ≡ kind_of n
+pub known_at : (k : BootloaderMemoryKind) (n : ℕ) → n ≡ number_of k → Some k ≡ kind_of n
 known_at k n e = rw (e, number_known k)
 
 -- a number that no kind has is read as none
-pub unknown_at : (n : ℕ) → (IsKind n → ⊥) → Unknown ≡ kind_of n
+pub unknown_at : (n : ℕ) → (IsKind n → ⊥) → None ≡ kind_of n
 unknown_at n f = go (kind_of n) (reads n)
   where
-    go : (r : KindRead) → Reads n r → Unknown ≡ r
+    go : (r : Option BootloaderMemoryKind) → Reads n r → None ≡ r
     go r (known k q) = absurd (f (record { kind = k; number = q }))
     go r (unknown q) = refl
 
 -- and only such a number is
-pub unknown_none : (n : ℕ) → kind_of n ≡ Unknown → IsKind n → ⊥
+pub unknown_none : (n : ℕ) → kind_of n ≡ None → IsKind n → ⊥
 unknown_none n e i =
-    let k : kind_of n ≡ Known i.kind = rw (sym i.number) (number_known i.kind) in
+    let k : kind_of n ≡ Some i.kind = rw (sym i.number) (number_known i.kind) in
     let z : ◌≡◌ {A = ℕ} 0 1 = cc in
     omega arith

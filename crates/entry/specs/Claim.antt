@@ -2,16 +2,12 @@
 use Rattle.std.specs.Prelude.{cond, ℕ, eqb}
 use Rattle.page.specs.Round.{down, up, ending}
 use Rattle.entry.specs.declared.MemoryEntry.{MemoryEntry}
+use Rattle.entry.specs.declared.Claim.{Claim}
 use Rattle.entry.specs.declared.BootloaderMemoryKind.TheVariants.{Free}
 use Rattle.entry.specs.Kind.{number_of}
 use Rattle.entry.specs.Entry.{entry}
 
 -- one registration: base, size and the number of a kind
-pub record Claim : Type 0 where
-  pub base : ℕ
-  pub size : ℕ
-  pub kind : ℕ
-
 abbrev pub claim : ℕ → ℕ → ℕ → Claim
 claim base size kind = record { base = base; size = size; kind = kind }
 

@@ -1,8 +1,6 @@
 -- Two entries: what they share, and what they make when nothing lies between them.
-use Rattle.std.specs.Prelude.{Bool, cond, ◌&&◌, ℕ, ◌≤◌, ◌<◌, min, max, leb, ltb}
+use Rattle.std.specs.Prelude.{Bool, cond, ◌&&◌, ℕ, ◌≤◌, ◌<◌, min, max, leb, ltb, Option, Some, None}
 use Rattle.entry.specs.declared.MemoryEntry.{MemoryEntry}
-use Rattle.entry.specs.declared.FoundEntry.{FoundEntry}
-use Rattle.entry.specs.declared.FoundEntry.TheVariants.{Entry, Nothing}
 
 abbrev pub entry : ℕ → ℕ → ℕ → MemoryEntry
 entry start end kind = record { start = start; end = end; kind = kind }
@@ -16,8 +14,8 @@ pub record Has (x : ℕ) (e : MemoryEntry) : Type 0 where
 unfoldable pub overlap : MemoryEntry → MemoryEntry → MemoryEntry
 overlap a b = entry (max a.start b.start) (min a.end b.end) a.kind
 
-unfoldable pub meet : MemoryEntry → MemoryEntry → FoundEntry
-meet a b = cond (ltb (overlap a b).start (overlap a b).end) (Entry (overlap a b)) Nothing
+unfoldable pub meet : MemoryEntry → MemoryEntry → Option MemoryEntry
+meet a b = cond (ltb (overlap a b).start (overlap a b).end) (Some (overlap a b)) None
 
 -- "overlaps or touches": neither ends before the other starts
 pub record Touch (a b : MemoryEntry) : Type 0 where
@@ -32,5 +30,5 @@ touching a b = leb a.start b.end && leb b.start a.end
 unfoldable pub union : MemoryEntry → MemoryEntry → MemoryEntry
 union a b = entry (min a.start b.start) (max a.end b.end) a.kind
 
-unfoldable pub join : MemoryEntry → MemoryEntry → FoundEntry
-join a b = cond (touching a b) (Entry (union a b)) Nothing
+unfoldable pub join : MemoryEntry → MemoryEntry → Option MemoryEntry
+join a b = cond (touching a b) (Some (union a b)) None

@@ -1,4 +1,7 @@
 -- `enter_in`: what each of its returns comes to, for a claim that was judged. Assumes nothing.
+use Rattle.late_claim.specs.declared.LateRefusal.TheVariants.{MapFull, TooManyAreas}
+use Rattle.late_claim.specs.declared.LateRefusal.{LateRefusal}
+use Rattle.std.specs.Prelude.{Result, Ok, Err}
 use mathlib.Core.Path.{◌≡◌, refl, ap, sym, ◌∙◌}
 use mathlib.Core.List.{List}
 use mathlib.Core.Bool.{Bool, true, false, cond, not}
@@ -8,9 +11,10 @@ use lib.Dec.{leb}
 use lib.ListN.{length}
 use borrow.Author.Tests.{eq-eqb, ne_eqb, le-leb, lt-leb, not-true, not-false}
 use Rattle.entry.specs.declared.MemoryEntry.{MemoryEntry}
-use Rattle.entry.specs.Claim.{Claim, rounded}
+use Rattle.entry.specs.declared.Claim.{Claim}
+use Rattle.entry.specs.Claim.{rounded}
 use Rattle.memory.specs.declared.MemoryMap.{MemoryMap}
-use Rattle.memory.specs.declared.Answer.TheVariants as answer
+use Rattle.memory.specs.declared.MapRefusal.TheVariants as refusal
 use Rattle.memory.specs.declared.Registered.{Registered}
 use Rattle.memory.specs.Map.{answered, nothing, inserted, registered, pass, begin}
 use Rattle.memory.specs.Run.{is_done}
@@ -22,8 +26,6 @@ use Rattle.lent_table.specs.Less.{less}
 use Rattle.lent_table.specs.Edit.{crowds, Lent, lent, edited}
 use Rattle.lent_table.proofs.TableLaws.{table_length, good_exactly}
 use Rattle.lent_table.proofs.Editing.{table_same, good_crowds, good_edited}
-use Rattle.late_claim.specs.declared.LateAnswer.{LateAnswer}
-use Rattle.late_claim.specs.declared.LateAnswer.TheVariants.{Done, MapFull, TooManyAreas}
 use Rattle.late_claim.specs.Late.{less_claim, areas_left, judged, entering, After, on_done, unchanged, entered, enter_of}
 use Rattle.late_claim.proofs.Judging.{Checked, checked}
 
@@ -41,7 +43,7 @@ refused_map p m c e = go (registered p m c) (registered_way p m c) e
     go r (new_page s) f = new (rounded p c) f
 
 -- the answer in hand
-pub enter_at_lem : (p : ℕ) (m : MemoryMap) (c : Claim) (n : ℕ) (l : List ℕ) (a : LateAnswer) → entering p m c n l ≡ a
+pub enter_at_lem : (p : ℕ) (m : MemoryMap) (c : Claim) (n : ℕ) (l : List ℕ) (a : Result Unit LateRefusal) → entering p m c n l ≡ a
     → enter_of p m c n l ≡ on_done a (entered p m c n l) (unchanged m n l a)
 unfolding enter_of
 enter_at_lem p m c n l a e = rw e
@@ -49,25 +51,25 @@ enter_at_lem p m c n l a e = rw e
 -- what entering leaves, part by part
 entered_is : (p : ℕ) (m : MemoryMap) (c : Claim) (n : ℕ) (l : List ℕ) (m' : MemoryMap) (n' : ℕ) (l' : List ℕ)
     → m' ≡ (registered p m c).map → n' ≡ length (areas_left p c n l) → l' ≡ table_with (areas_left p c n l) n l
-    → ◌≡◌ {A = After} (record { map = m'; count = n'; table = l'; answer = Done }) (entered p m c n l)
+    → ◌≡◌ {A = After} (record { map = m'; count = n'; table = l'; answer = (Ok tt) }) (entered p m c n l)
 entered_is p m c n l m' n' l' e f g = rw (e, f, g)
 
-module _ (p : ℕ) (m : MemoryMap) (c : Claim) (n : ℕ) (l : List ℕ) (done : judged p c.kind n l ≡ Done) where
+module _ (p : ℕ) (m : MemoryMap) (c : Claim) (n : ℕ) (l : List ℕ) (done : judged p c.kind n l ≡ (Ok tt)) where
   check : Checked p c.kind n l
   check = checked p c.kind n l done
 
   -- the claim registers nothing
-  pub enter_nothing : nothing p c ≡ true → unchanged m n l Done ≡ enter_of p m c n l
+  pub enter_nothing : nothing p c ≡ true → unchanged m n l (Ok tt) ≡ enter_of p m c n l
   unfolding entering less_claim
   enter_nothing t =
       let g : GoodTable p n l = (good_exactly p n l).0 check.good in
       let same : areas_left p c n l ≡ table_in n l = rw t in
       let size : length (table_in n l) ≡ n = table_length n l (omega (arith, g.room)) in
-      let r : registered p m c ≡ answered m answer.Done = unfold registered in rw (← check.known, t) in
+      let r : registered p m c ≡ answered m (Ok tt) = unfold registered in rw (← check.known, t) in
       entered_is p m c n l m n l (rw r) (rw (same, size)) (rw same (table_same l n g.room))
-      ∙ sym (enter_at_lem p m c n l Done (rw (r, same, le-leb (length (table_in n l)) (slots_in l) (omega (arith, g.room)))))
+      ∙ sym (enter_at_lem p m c n l (Ok tt) (rw (r, same, le-leb (length (table_in n l)) (slots_in l) (omega (arith, g.room)))))
 
-  pub enter_sizeless : c.size ≡ 0 → unchanged m n l Done ≡ enter_of p m c n l
+  pub enter_sizeless : c.size ≡ 0 → unchanged m n l (Ok tt) ≡ enter_of p m c n l
   enter_sizeless h = enter_nothing (unfold nothing in rw (ne_eqb c.kind 0 (λ z. omega (arith, check.late)), eq-eqb c.size 0 h))
 
   module _ (sized : c.size ≡ 0 → ⊥) {pages : MemoryEntry} (is : pages ≡ rounded p c) where
@@ -75,7 +77,7 @@ module _ (p : ℕ) (m : MemoryMap) (c : Claim) (n : ℕ) (l : List ℕ) (done : 
     unfolding nothing
     nothing_is = rw (ne_eqb c.kind 0 (λ z. omega (arith, check.late)), ne_eqb c.size 0 sized, ← is)
 
-    pub enter_pageless : pages.end ≤ pages.start → unchanged m n l Done ≡ enter_of p m c n l
+    pub enter_pageless : pages.end ≤ pages.start → unchanged m n l (Ok tt) ≡ enter_of p m c n l
     enter_pageless h = enter_nothing (nothing_is ∙ le-leb pages.end pages.start h)
 
     module _ (some : pages.start < pages.end) where
@@ -85,7 +87,7 @@ module _ (p : ℕ) (m : MemoryMap) (c : Claim) (n : ℕ) (l : List ℕ) (done : 
 
       -- the answer, where the registration and the room are told
       entering_is : (done room : Bool) → is_done (registered p m c).answer ≡ done → fits (less (span pages) (table_in n l)) l ≡ room
-          → entering p m c n l ≡ cond done (cond room Done TooManyAreas) MapFull
+          → entering p m c n l ≡ cond done (cond room (Ok tt) (Err TooManyAreas)) (Err MapFull)
       unfolding entering
       entering_is done room e f = rw (e, left_is, f)
 
@@ -94,34 +96,34 @@ module _ (p : ℕ) (m : MemoryMap) (c : Claim) (n : ℕ) (l : List ℕ) (done : 
       crowds_is = good_crowds p n l (span pages) check.good some
 
       pub enter_crowded : crowds (span pages) n l ≡ true → {r : Registered} → r ≡ registered p m c
-          → {a : LateAnswer} → a ≡ cond (is_done r.answer) TooManyAreas MapFull → unchanged m n l a ≡ enter_of p m c n l
-      enter_crowded full {r} q {a} z = go (is_done (registered p m c).answer) refl (z ∙ ap (λ (x : Registered). cond (is_done x.answer) TooManyAreas MapFull) q)
+          → {a : (Result Unit LateRefusal)} → a ≡ cond (is_done r.answer) (Err TooManyAreas) (Err MapFull) → unchanged m n l a ≡ enter_of p m c n l
+      enter_crowded full {r} q {a} z = go (is_done (registered p m c).answer) refl (z ∙ ap (λ (x : Registered). cond (is_done x.answer) (Err TooManyAreas) (Err MapFull)) q)
         where
           none : fits (less (span pages) (table_in n l)) l ≡ false
           none = not-true _ (sym crowds_is ∙ full)
 
-          go : (t : Bool) → is_done (registered p m c).answer ≡ t → a ≡ cond (is_done (registered p m c).answer) TooManyAreas MapFull → unchanged m n l a ≡ enter_of p m c n l
+          go : (t : Bool) → is_done (registered p m c).answer ≡ t → a ≡ cond (is_done (registered p m c).answer) (Err TooManyAreas) (Err MapFull) → unchanged m n l a ≡ enter_of p m c n l
           go true u v =
-              let w : a ≡ TooManyAreas = v ∙ rw u in
-              rw w (sym (enter_at_lem p m c n l TooManyAreas (entering_is true false u none)))
+              let w : a ≡ (Err TooManyAreas) = v ∙ rw u in
+              rw w (sym (enter_at_lem p m c n l (Err TooManyAreas) (entering_is true false u none)))
           go false u v =
-              let w : a ≡ MapFull = v ∙ rw u in
-              rw w (sym (enter_at_lem p m c n l MapFull (entering_is false false u none)))
+              let w : a ≡ (Err MapFull) = v ∙ rw u in
+              rw w (sym (enter_at_lem p m c n l (Err MapFull) (entering_is false false u none)))
 
       module _ (room : crowds (span pages) n l ≡ false) {r : Registered} (q : r ≡ registered p m c) where
         enough : fits (less (span pages) (table_in n l)) l ≡ true
         enough = not-false _ (sym crowds_is ∙ room)
 
-        pub enter_full : is_done r.answer ≡ false → unchanged r.map n l MapFull ≡ enter_of p m c n l
+        pub enter_full : is_done r.answer ≡ false → unchanged r.map n l (Err MapFull) ≡ enter_of p m c n l
         enter_full u =
             let v : is_done (registered p m c).answer ≡ false = rw q at u in
             let k : r.map ≡ m = ap (λ (x : Registered). x.map) q ∙ refused_map p m c v in
-            rw k (sym (enter_at_lem p m c n l MapFull (entering_is false true v enough)))
+            rw k (sym (enter_at_lem p m c n l (Err MapFull) (entering_is false true v enough)))
 
-        pub enter_done : r.answer ≡ answer.Done → {l' : List ℕ} {n' : ℕ} → lent n' l' ≡ edited (span pages) n l
-            → ◌≡◌ {A = After} (record { map = r.map; count = n'; table = l'; answer = Done }) (enter_of p m c n l)
+        pub enter_done : r.answer ≡ (Ok tt) → {l' : List ℕ} {n' : ℕ} → lent n' l' ≡ edited (span pages) n l
+            → ◌≡◌ {A = After} (record { map = r.map; count = n'; table = l'; answer = (Ok tt) }) (enter_of p m c n l)
         enter_done u {l'} {n'} d =
             let v : is_done (registered p m c).answer ≡ true = rw q at (ap is_done u) in
             let e = d ∙ good_edited p n l (span pages) check.good some enough in
             entered_is p m c n l r.map n' l' (ap (λ (x : Registered). x.map) q) (rw left_is (ap (λ (x : Lent). x.count) e)) (rw left_is (ap (λ (x : Lent). x.numbers) e))
-            ∙ sym (enter_at_lem p m c n l Done (entering_is true true v enough))
+            ∙ sym (enter_at_lem p m c n l (Ok tt) (entering_is true true v enough))

@@ -1,24 +1,25 @@
 -- What a late claim leaves: a refusal nothing else than was there, and any answer a map that every call takes. Assumes nothing.
+use Rattle.late_claim.specs.declared.LateRefusal.TheVariants.{UnknownKind, NotLate, BadTable, MapFull, TooManyAreas}
+use Rattle.late_claim.specs.declared.LateRefusal.{LateRefusal}
+use Rattle.std.specs.Prelude.{Result, Ok, Err}
 use mathlib.Core.Path.{◌≡◌, refl}
 use mathlib.Core.List.{List}
 use Prim.Native.Nat.{ℕ}
 use Rattle.page.specs.Round.{Page}
-use Rattle.entry.specs.Claim.{Claim}
+use Rattle.entry.specs.declared.Claim.{Claim}
 use Rattle.memory.specs.declared.MemoryMap.{MemoryMap}
 use Rattle.memory.specs.Made.{Made}
 use Rattle.memory.proofs.MapLaws.{registered_made}
-use Rattle.late_claim.specs.declared.LateAnswer.{LateAnswer}
-use Rattle.late_claim.specs.declared.LateAnswer.TheVariants.{Done, UnknownKind, NotLate, BadTable, MapFull, TooManyAreas}
 use Rattle.late_claim.specs.Late.{late_number, judged, entering, on_done, After, unchanged, entered, enter_of, late_of}
 
 -- what is so of both is so of the one that an answer picks
-pub on_either : {A : Type 0} (P : A → Type 0) (a : LateAnswer) (x y : A) → P x → P y → P (on_done a x y)
-on_either P Done x y h k = h
-on_either P UnknownKind x y h k = k
-on_either P NotLate x y h k = k
-on_either P BadTable x y h k = k
-on_either P MapFull x y h k = k
-on_either P TooManyAreas x y h k = k
+pub on_either : {A : Type 0} (P : A → Type 0) (a : Result Unit LateRefusal) (x y : A) → P x → P y → P (on_done a x y)
+on_either P (Ok tt) x y h k = h
+on_either P (Err UnknownKind) x y h k = k
+on_either P (Err NotLate) x y h k = k
+on_either P (Err BadTable) x y h k = k
+on_either P (Err MapFull) x y h k = k
+on_either P (Err TooManyAreas) x y h k = k
 
 -- refusals "all leave map and table unchanged"
 pub refused_unchanged : (p : ℕ) (m : MemoryMap) (c : Claim) (n : ℕ) (l : List ℕ) → (late_number (late_of p m c n l).answer ≡ 0 → ⊥)

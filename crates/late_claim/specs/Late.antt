@@ -1,10 +1,12 @@
 -- What a late claim does, whole: request L3 of document 02.
-use Rattle.std.specs.Prelude.{◌≡◌, List, Bool, cond, ◌||◌, ℕ, eqb, length}
-use Rattle.entry.specs.declared.KindRead.{KindRead}
-use Rattle.entry.specs.declared.KindRead.TheVariants.{Known, Unknown}
+use Rattle.late_claim.specs.declared.LateRefusal.TheVariants.{UnknownKind, NotLate, BadTable, MapFull, TooManyAreas}
+use Rattle.late_claim.specs.declared.LateRefusal.{LateRefusal}
+use Rattle.entry.specs.declared.BootloaderMemoryKind.{BootloaderMemoryKind}
+use Rattle.std.specs.Prelude.{◌≡◌, List, Bool, cond, ◌||◌, ℕ, eqb, length, Option, Some, None, Result, Ok, Err}
 use Rattle.entry.specs.declared.BootloaderMemoryKind.TheVariants.{Null, Free}
 use Rattle.entry.specs.Kind.{number_of, kind_of}
-use Rattle.entry.specs.Claim.{Claim, rounded}
+use Rattle.entry.specs.declared.Claim.{Claim}
+use Rattle.entry.specs.Claim.{rounded}
 use Rattle.memory.specs.declared.MemoryMap.{MemoryMap}
 use Rattle.memory.specs.Map.{map_of, nothing, registered}
 use Rattle.memory.specs.Made.{Made}
@@ -14,19 +16,17 @@ use Rattle.areas.specs.Areas.{span}
 use Rattle.areas.specs.Table.{fits}
 use Rattle.lent_table.specs.Table.{table_in, good_table, table_with}
 use Rattle.lent_table.specs.Less.{less}
-use Rattle.late_claim.specs.declared.LateAnswer.{LateAnswer}
-use Rattle.late_claim.specs.declared.LateAnswer.TheVariants.{Done, UnknownKind, NotLate, BadTable, MapFull, TooManyAreas}
 use Rattle.late_claim.specs.declared.Late.{Late}
 use Rattle.late_claim.specs.declared.LateIn.{LateIn}
 
 -- "Refusals, in order: 1, 13 .., 14 .., 2, 3"; "0 is done." (document 01)
-abbrev pub late_number : LateAnswer → ℕ
-late_number Done = 0
-late_number UnknownKind = 1
-late_number NotLate = 13
-late_number BadTable = 14
-late_number MapFull = 2
-late_number TooManyAreas = 3
+abbrev pub late_number : Result Unit LateRefusal → ℕ
+late_number (Ok tt) = 0
+late_number (Err UnknownKind) = 1
+late_number (Err NotLate) = 13
+late_number (Err BadTable) = 14
+late_number (Err MapFull) = 2
+late_number (Err TooManyAreas) = 3
 
 -- ── What is left, and what is refused ──
 -- "its areas less the rounded claim"; a claim that registers nothing takes nothing away
@@ -42,17 +42,17 @@ unfoldable pub never : ℕ → Bool
 never kind = eqb kind (number_of Null) || eqb kind (number_of Free)
 
 -- 1 comes first
-abbrev pub kind_first : KindRead → LateAnswer → LateAnswer
-kind_first Unknown a = UnknownKind
-kind_first (Known k) a = a
+abbrev pub kind_first : Option BootloaderMemoryKind → Result Unit LateRefusal → Result Unit LateRefusal
+kind_first None a = Err UnknownKind
+kind_first (Some k) a = a
 
 -- 1, 13, 14
-unfoldable pub judged : ℕ → ℕ → ℕ → List ℕ → LateAnswer
-judged p kind n l = kind_first (kind_of kind) (cond (never kind) NotLate (cond (good_table p n l) Done BadTable))
+unfoldable pub judged : ℕ → ℕ → ℕ → List ℕ → Result Unit LateRefusal
+judged p kind n l = kind_first (kind_of kind) (cond (never kind) (Err NotLate) (cond (good_table p n l) (Ok tt) (Err BadTable)))
 
 -- then 2, 3
-unfoldable pub entering : ℕ → MemoryMap → Claim → ℕ → List ℕ → LateAnswer
-entering p m c n l = cond (is_done (registered p m c).answer) (cond (fits (areas_left p c n l) l) Done TooManyAreas) MapFull
+unfoldable pub entering : ℕ → MemoryMap → Claim → ℕ → List ℕ → Result Unit LateRefusal
+entering p m c n l = cond (is_done (registered p m c).answer) (cond (fits (areas_left p c n l) l) (Ok tt) (Err TooManyAreas)) (Err MapFull)
 
 -- ── What is there afterwards ──
 -- the map, how many slots are used, the lent numbers, and the answer
@@ -60,18 +60,18 @@ pub record After : Type 0 where
   pub map : MemoryMap
   pub count : ℕ
   pub table : List ℕ
-  pub answer : LateAnswer
+  pub answer : Result Unit LateRefusal
 
-abbrev pub on_done : {A : Type 0} → LateAnswer → A → A → A
-on_done Done x y = x
-on_done UnknownKind x y = y
-on_done NotLate x y = y
-on_done BadTable x y = y
-on_done MapFull x y = y
-on_done TooManyAreas x y = y
+abbrev pub on_done : {A : Type 0} → Result Unit LateRefusal → A → A → A
+on_done (Ok tt) x y = x
+on_done (Err UnknownKind) x y = y
+on_done (Err NotLate) x y = y
+on_done (Err BadTable) x y = y
+on_done (Err MapFull) x y = y
+on_done (Err TooManyAreas) x y = y
 
 -- refusals "all leave map and table unchanged"
-abbrev pub unchanged : MemoryMap → ℕ → List ℕ → LateAnswer → After
+abbrev pub unchanged : MemoryMap → ℕ → List ℕ → Result Unit LateRefusal → After
 unchanged m n l a = record { map = m; count = n; table = l; answer = a }
 
 -- "enter the map and edit the table where it stands"
@@ -81,7 +81,7 @@ entered p m c n l =
       map = (registered p m c).map;
       count = length (areas_left p c n l);
       table = table_with (areas_left p c n l) n l;
-      answer = Done;
+      answer = Ok tt;
     }
 
 -- after 1, 13 and 14 are checked
@@ -102,4 +102,4 @@ after_in r s e k l = record { map = map_of s e k r.size; count = r.count; table 
 -- what entering asks: a map made by our calls, and that 1, 13 and 14 are checked
 pub record Enters (p : ℕ) (m : MemoryMap) (kind n : ℕ) (l : List ℕ) : Type 0 where
   pub made : Made p m
-  pub checked : judged p kind n l ≡ Done
+  pub checked : judged p kind n l ≡ (Ok tt)

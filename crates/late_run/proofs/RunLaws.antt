@@ -1,5 +1,6 @@
 -- What a run means: it is refused where its first refused claim is, on what those before it left; and done exactly where none is.
 -- Assumes nothing.
+use Rattle.std.specs.Prelude.{Ok}
 use mathlib.Core.Path.{◌≡◌, refl, ap, sym, ◌∙◌}
 use mathlib.Core.Logic.{◌↔◌}
 use mathlib.Core.Bool.{Bool, true, false}
@@ -9,9 +10,8 @@ use native.Mathlib.Omega.{arith}
 use lib.Dec.{eqb}
 use lib.ListN.{length}
 use borrow.Author.Tests.{eqb-true, eqb-false}
-use Rattle.entry.specs.Claim.{Claim}
+use Rattle.entry.specs.declared.Claim.{Claim}
 use Rattle.memory.specs.declared.MemoryMap.{MemoryMap}
-use Rattle.late_claim.specs.declared.LateAnswer.TheVariants.{Done}
 use Rattle.late_claim.specs.Late.{late_number, After, unchanged, late_of}
 use Rattle.late_claim.proofs.MadeLaws.{refused_unchanged}
 use Rattle.late_run.specs.Run.{Run, run, stopped, late_all, Dones, none, next, Stops}
@@ -98,12 +98,12 @@ module _ (p : ℕ) where
   from m n l i (c ∷ cs) f = from_either m n l i c cs (from (late_of p m c n l).map (late_of p m c n l).count (late_of p m c n l).table (i + 1) cs) f
 
   dones_run : {m m' : MemoryMap} {n n' : ℕ} {l l' : List ℕ} {cs : List Claim} (i : ℕ) → Dones p m n l cs m' n' l'
-      → late_all p m n l i cs ≡ run m' n' l' (i + length cs) Done
-  dones_run {m} {m'} {n} {n'} {l} {l'} i none = unfold late_all in ap (λ (j : ℕ). run m n l j Done) (omega arith)
+      → late_all p m n l i cs ≡ run m' n' l' (i + length cs) (Ok tt)
+  dones_run {m} {m'} {n} {n'} {l} {l'} i none = unfold late_all in ap (λ (j : ℕ). run m n l j (Ok tt)) (omega arith)
   dones_run {m} {m'} {n} {n'} {l} {l'} i (next c cs z d) =
       run_on p m n l i c cs (late_of p m c n l) refl z
       ∙ dones_run (i + 1) d
-      ∙ ap (λ (j : ℕ). run m' n' l' j Done) (omega arith)
+      ∙ ap (λ (j : ℕ). run m' n' l' j (Ok tt)) (omega arith)
 
   run_dones : (m : MemoryMap) (n : ℕ) (l : List ℕ) (i : ℕ) (cs : List Claim) → late_number (late_all p m n l i cs).answer ≡ 0 → Ends m n l cs (late_all p m n l i cs)
   run_dones m n l i [] h = unfold late_all in none

@@ -1,4 +1,5 @@
 -- The loop over the claims: what is left to claim, on the arrays as they are, ends as the whole run does. Assumes nothing.
+use Rattle.std.specs.Prelude.{Ok}
 use mathlib.Core.Path.{◌≡◌, refl, ap, sym, ◌∙◌}
 use mathlib.Core.List.{List, ◌∷◌}
 use Prim.Native.Nat.{ℕ, suc, ◌+◌, ◌-◌, ◌*◌, ◌/◌, ◌≤◌, ◌<◌}
@@ -6,11 +7,11 @@ use native.Mathlib.Omega.{arith}
 use lib.ListN.{length}
 use Rattle.page.specs.Round.{Page}
 use Rattle.words.specs.Little.{eight}
-use Rattle.entry.specs.Claim.{Claim, claim}
+use Rattle.entry.specs.declared.Claim.{Claim}
+use Rattle.entry.specs.Claim.{claim}
 use Rattle.memory.specs.declared.MemoryMap.{MemoryMap}
 use Rattle.memory.specs.Made.{Made}
 use Rattle.bootloader.specs.List.{claim_at, claims_at, claims}
-use Rattle.late_claim.specs.declared.LateAnswer.TheVariants.{Done}
 use Rattle.late_claim.specs.Late.{late_number, After, late_of}
 use Rattle.late_claim.proofs.Claiming.{zero_done, other}
 use Rattle.late_claim.proofs.MadeLaws.{late_made}
@@ -21,7 +22,7 @@ module _ (p : ℕ) (m : MemoryMap) (n : ℕ) (l : List ℕ) (i : ℕ) (c : Claim
   pub run_on : late_number a.answer ≡ 0 → late_all p m n l i (c ∷ cs) ≡ late_all p a.map a.count a.table (i + 1) cs
   unfolding late_all
   run_on z =
-      let done : (late_of p m c n l).answer ≡ Done = ap (λ (x : After). x.answer) (sym is) ∙ zero_done a.answer z in
+      let done : (late_of p m c n l).answer ≡ (Ok tt) = ap (λ (x : After). x.answer) (sym is) ∙ zero_done a.answer z in
       rw (is, done)
 
   pub run_stops : (late_number a.answer ≡ 0 → ⊥) → late_all p m n l i (c ∷ cs) ≡ stopped a i
@@ -42,7 +43,7 @@ runs p t m n l made =
     record { at = omega arith; bytes = omega arith; made = made; same = refl; left = rw e }
 
 module _ {p : ℕ} {t : List ℕ} {k : ℕ} {goal : Run} {m : MemoryMap} {n : ℕ} {l : List ℕ} {size i : ℕ} (inv : Running p t k goal m n l size i) where
-  pub runs_end : k ≤ i → run m n l i Done ≡ goal
+  pub runs_end : k ≤ i → run m n l i (Ok tt) ≡ goal
   unfolding late_all claims_at
   runs_end h = let e : k - i ≡ 0 = omega arith in rw e at inv.left
 

@@ -1,10 +1,9 @@
 -- Late claims one after the other: document 02, request L3, and its program, which "makes one claim after the other up to the first refusal".
-use Rattle.std.specs.Prelude.{◌≡◌, List, [], ◌∷◌, ◌++◌, ℕ, ◌+◌, length}
-use Rattle.entry.specs.Claim.{Claim}
+use Rattle.late_claim.specs.declared.LateRefusal.{LateRefusal}
+use Rattle.std.specs.Prelude.{◌≡◌, List, [], ◌∷◌, ◌++◌, ℕ, ◌+◌, length, Result, Ok}
+use Rattle.entry.specs.declared.Claim.{Claim}
 use Rattle.memory.specs.declared.MemoryMap.{MemoryMap}
 use Rattle.memory.specs.Map.{map_of}
-use Rattle.late_claim.specs.declared.LateAnswer.{LateAnswer}
-use Rattle.late_claim.specs.declared.LateAnswer.TheVariants.{Done}
 use Rattle.late_claim.specs.Late.{late_number, on_done, After, late_of}
 use Rattle.late_run.specs.declared.LateRun.{LateRun}
 use Rattle.late_run.specs.declared.LateRunIn.{LateRunIn}
@@ -16,9 +15,9 @@ pub record Run : Type 0 where
   pub count : ℕ
   pub table : List ℕ
   pub index : ℕ
-  pub answer : LateAnswer
+  pub answer : Result Unit LateRefusal
 
-abbrev pub run : MemoryMap → ℕ → List ℕ → ℕ → LateAnswer → Run
+abbrev pub run : MemoryMap → ℕ → List ℕ → ℕ → Result Unit LateRefusal → Run
 run m n l i a = record { map = m; count = n; table = l; index = i; answer = a }
 
 -- what one claim, that of index i, left
@@ -27,7 +26,7 @@ stopped a i = run a.map a.count a.table i a.answer
 
 -- THE RUN of some claims, the first of which has index i, on the map m and on the numbers l, of which n slots are used
 unfoldable pub late_all : ℕ → MemoryMap → ℕ → List ℕ → ℕ → List Claim → Run
-late_all p m n l i [] = run m n l i Done
+late_all p m n l i [] = run m n l i (Ok tt)
 late_all p m n l i (c ∷ cs) =
     on_done (late_of p m c n l).answer
     (late_all p (late_of p m c n l).map (late_of p m c n l).count (late_of p m c n l).table (i + 1) cs)

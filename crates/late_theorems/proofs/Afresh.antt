@@ -1,4 +1,5 @@
 -- The areas of a map less a late claim are the areas of the map with the claim registered. For every page size. Assumes nothing.
+use Rattle.std.specs.Prelude.{Option, ℕ, Ok}
 use mathlib.Core.Path.{◌≡◌, refl, ap, sym, ◌∙◌}
 use mathlib.Core.Bool.{cond}
 use mathlib.Core.Logic.{◌⊎◌, inl, inr, ⊎_elim, ◌↔◌}
@@ -6,16 +7,15 @@ use Prim.Native.Nat.{ℕ}
 use Rattle.page.specs.Round.{Page}
 use Rattle.entry.specs.declared.BootloaderMemoryKind.TheVariants.{Free}
 use Rattle.entry.specs.Kind.{number_of, IsKind}
-use Rattle.entry.specs.Claim.{Claim, rounded}
+use Rattle.entry.specs.declared.Claim.{Claim}
+use Rattle.entry.specs.Claim.{rounded}
 use Rattle.entry.proofs.ClaimLaws.{rounded_kind}
 use Rattle.memory.specs.declared.MemoryMap.{MemoryMap}
-use Rattle.memory.specs.declared.Answer.TheVariants.{Done}
 use Rattle.memory.specs.declared.Registered.{Registered}
 use Rattle.memory.specs.Map.{slots_of, at, Something, registered}
 use Rattle.memory.specs.Made.{Made}
 use Rattle.memory.proofs.MapLaws.{registered_made}
 use Rattle.runs.proofs.Sets.{registered_adds}
-use Rattle.areas.specs.declared.Limit.{Limit}
 use Rattle.areas.specs.Interval.{Inside}
 use Rattle.areas.specs.Areas.{span, areas_of}
 use Rattle.areas.proofs.Normal.{one_list}
@@ -25,7 +25,7 @@ use Rattle.lent_table.proofs.LessLaws.{above_solid, less_listed, less_ascends}
 use Rattle.late_claim.specs.Late.{less_claim}
 use Rattle.late_theorems.proofs.Taking.{nothing_ways, registers_nothing}
 
-module _ (p : ℕ) (m : MemoryMap) (c : Claim) (g : Page p) (made : Made p m) (done : (registered p m c).answer ≡ Done) (other : c.kind ≡ number_of Free → ⊥) where
+module _ (p : ℕ) (m : MemoryMap) (c : Claim) (g : Page p) (made : Made p m) (done : (registered p m c).answer ≡ (Ok tt)) (other : c.kind ≡ number_of Free → ⊥) where
   -- the claim adds nothing to the Free entries
   free_stays : (x : ℕ) → LiesFree x (registered p m c).map ↔ LiesFree x m
   free_stays x =
@@ -58,7 +58,7 @@ module _ (p : ℕ) (m : MemoryMap) (c : Claim) (g : Page p) (made : Made p m) (d
         record { slot = v.slot; held = v.held; kind = λ e. other (sym v.found.kind ∙ e); has = v.found.has }),
   )
 
-  module _ (low high : Limit) where
+  module _ (low high : Option ℕ) where
     less_afresh : Something p c → less (span (rounded p c)) (areas_of p low high m) ≡ areas_of p low high (registered p m c).map
     less_afresh s =
         let made' = registered_made p m c g made in

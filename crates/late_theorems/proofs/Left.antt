@@ -1,5 +1,6 @@
 -- A late claim that is done, on any table that passes 14: request L3 of document 02, "For any other table that passes 14, they are its areas
 -- less the rounded claim." For every page size. Assumes nothing.
+use Rattle.std.specs.Prelude.{Ok}
 use mathlib.Core.Path.{◌≡◌, refl, ap, sym, ◌∙◌}
 use mathlib.Core.Bool.{true}
 use mathlib.Core.List.Memᴰ
@@ -8,7 +9,7 @@ use mathlib.Core.Logic.{◌↔◌, ⊎_elim}
 use Prim.Native.Nat.{ℕ, ◌+◌, ◌/◌, ◌≤◌, ◌<◌}
 use lib.ListN.{length, get_or}
 use Rattle.page.specs.Round.{Page}
-use Rattle.entry.specs.Claim.{Claim}
+use Rattle.entry.specs.declared.Claim.{Claim}
 use Rattle.memory.specs.declared.MemoryMap.{MemoryMap}
 use Rattle.memory.specs.Map.{Something, nothing}
 use Rattle.areas.specs.Interval.{Interval, Listed}
@@ -18,7 +19,6 @@ use Rattle.demand3.specs.Slots.{number_slot, ListedIn}
 use Rattle.lent_table.specs.Table.{table_in, GoodTable}
 use Rattle.lent_table.proofs.LessLaws.{above_solid}
 use Rattle.lent_table.proofs.TableLaws.{span_at}
-use Rattle.late_claim.specs.declared.LateAnswer.TheVariants.{Done}
 use Rattle.late_claim.specs.Late.{less_claim, areas_left, unchanged, late_of}
 use Rattle.late_claim.proofs.Claiming.{late_enters}
 use Rattle.late_claim.proofs.Entering.{enter_nothing}
@@ -99,11 +99,11 @@ module _ (p : ℕ) (m : MemoryMap) (c : Claim) (n : ℕ) (l : List ℕ) (done : 
 
 -- THEOREM, a claim that registers nothing: it is done and changes nothing
 module _ (p : ℕ) (m : MemoryMap) (c : Claim) (n : ℕ) (l : List ℕ) (kind : LateKind c) (stands : TableStands p n l) where
-  pub nothing_claimed : (Something p c → ⊥) → late_of p m c n l ≡ unchanged m n l Done
+  pub nothing_claimed : (Something p c → ⊥) → late_of p m c n l ≡ unchanged m n l (Ok tt)
   nothing_claimed none =
       let is : nothing p c ≡ true = nothing_ways p c (λ t. t ≡ true) (λ _. refl) (λ f. absurd (none (f kind.known))) in
       late_enters p m c n l (late_checked p m c n l kind stands) ∙ sym (enter_nothing p m c n l (late_checked p m c n l kind stands) is)
 
   -- "Size 0, once 1, 13 and 14 are checked, is done and changes nothing."
-  pub size_0 : c.size ≡ 0 → late_of p m c n l ≡ unchanged m n l Done
+  pub size_0 : c.size ≡ 0 → late_of p m c n l ≡ unchanged m n l (Ok tt)
   size_0 e = nothing_claimed (λ s. s.sized e)

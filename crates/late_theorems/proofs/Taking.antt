@@ -1,5 +1,6 @@
 -- Areas less a claim: which addresses are left, that the areas still ascend and are whole pages, and which stay as they are. For every
 -- page size. Assumes nothing.
+use Rattle.std.specs.Prelude.{Ok}
 use mathlib.Core.Path.{◌≡◌, refl}
 use mathlib.Core.Bool.{Bool, true, false, cond, ◌||◌}
 use mathlib.Core.List.{List, Memᴰ}
@@ -11,10 +12,10 @@ use borrow.Author.Tests.{eqb-true, eqb-false, leb-true, leb-false}
 use Rattle.page.specs.Round.{top, Aligned, Page}
 use Rattle.entry.specs.declared.BootloaderMemoryKind.TheVariants.{Null}
 use Rattle.entry.specs.Kind.{number_of, IsKind}
-use Rattle.entry.specs.Claim.{Claim, rounded}
+use Rattle.entry.specs.declared.Claim.{Claim}
+use Rattle.entry.specs.Claim.{rounded}
 use Rattle.entry.proofs.ClaimLaws.{rounded_from, rounded_to, rounded_low}
 use Rattle.memory.specs.declared.MemoryMap.{MemoryMap}
-use Rattle.memory.specs.declared.Answer.TheVariants.{Done}
 use Rattle.memory.specs.declared.Registered.{Registered}
 use Rattle.memory.specs.Map.{Something, nothing, answered, registered}
 use Rattle.memory.proofs.MapLaws.{Way, no_kind, no_page, new_page, registered_way}
@@ -42,10 +43,10 @@ nothing_ways p c P f g =
     go false false false e h k = g (λ i. record { known = i; proper = eqb-false _ _ e; sized = eqb-false _ _ h; some = leb-false _ _ k })
 
 -- such a claim is done and leaves the map
-pub registers_nothing : (p : ℕ) (m : MemoryMap) (c : Claim) → IsKind c.kind → (Something p c → ⊥) → registered p m c ≡ answered m Done
+pub registers_nothing : (p : ℕ) (m : MemoryMap) (c : Claim) → IsKind c.kind → (Something p c → ⊥) → registered p m c ≡ answered m (Ok tt)
 registers_nothing p m c known n = go (registered p m c) (registered_way p m c)
   where
-    go : (r : Registered) → Way p m c r → r ≡ answered m Done
+    go : (r : Registered) → Way p m c r → r ≡ answered m (Ok tt)
     go r (no_kind i) = absurd (i known)
     go r (no_page i j) = refl
     go r (new_page s) = absurd (n s)

@@ -1,6 +1,7 @@
 -- What a late claim takes: request L3 of document 02, "the rounded claim".
 use Rattle.std.specs.Prelude.{◌≡◌, ℕ, ◌<◌}
-use Rattle.entry.specs.Claim.{Claim, rounded}
+use Rattle.entry.specs.declared.Claim.{Claim}
+use Rattle.entry.specs.Claim.{rounded}
 use Rattle.memory.specs.Map.{Something}
 use Rattle.areas.specs.Interval.{Interval, Inside}
 use Rattle.areas.specs.Areas.{span}

@@ -1,5 +1,8 @@
 -- The finished areas in a row of records: the table of numbers that the areas are built in has room for all of them, and storing the first
 -- pairs of such a table gives the row that is asked for. Assumes nothing.
+use Rattle.areas.specs.declared.AreasRefusal.TheVariants.{TooManyAreas}
+use Rattle.areas.specs.declared.AreasRefusal.{AreasRefusal}
+use Rattle.std.specs.Prelude.{Option, ℕ, Result, Ok, Err}
 use mathlib.Core.Path.{◌≡◌, refl, sym, ap, ap₂, subst, ◌∙◌}
 use mathlib.Core.List.{List, [], ◌∷◌, ◌++◌, map}
 use mathlib.Core.Bool.{Bool, true, false, cond}
@@ -11,9 +14,6 @@ use lib.Seq.{length-take-le, take-suc, take_all, drop-cons, append_snoc, set_at,
 use borrow.Author.Tests.{le-leb, lt-leb, leb-true}
 use Rattle.memory.specs.declared.MemoryMap.{MemoryMap}
 use Rattle.memory.specs.Made.{Made}
-use Rattle.areas.specs.declared.Limit.{Limit}
-use Rattle.areas.specs.declared.Built.{Built}
-use Rattle.areas.specs.declared.Built.TheVariants.{Done, TooManyAreas}
 use Rattle.areas.specs.Interval.{Interval, interval}
 use Rattle.areas.specs.Areas.{areas_of}
 use Rattle.areas.specs.Table.{flat, answer_of, table_of, built_number}
@@ -92,47 +92,47 @@ laid_finished areas row t d = go (leb (length areas) (length row)) refl
 
 -- ── The table that the areas are built in ──
 
-pub few_areas : {p : ℕ} {m : MemoryMap} → Made p m → (low high : Limit) → length (areas_of p low high m) ≤ 512
+pub few_areas : {p : ℕ} {m : MemoryMap} → Made p m → (low high : Option ℕ) → length (areas_of p low high m) ≤ 512
 few_areas made low high = omega (arith, areas_of_few made low high, made.room)
 
 module _ (areas : List Interval) (few : length areas ≤ 512) (l : List ℕ) (size : length l ≡ 1024) where
   all_fit : leb (length areas) (length l / 2) ≡ true
   all_fit = le-leb (length areas) (length l / 2) (omega (arith, few))
 
-  answered : answer_of areas l ≡ Done (length areas)
+  answered : answer_of areas l ≡ Ok (length areas)
   unfolding answer_of
-  answered = ap (λ (b : Bool). cond b (Done (length areas)) TooManyAreas) all_fit
+  answered = ap (λ (b : Bool). cond b (Ok (length areas)) (Err TooManyAreas)) all_fit
 
   written : table_of areas l ≡ flat areas ++ drop (length areas + length areas) l
   unfolding table_of
   written = ap (λ (b : Bool). cond b (flat areas ++ drop (length areas + length areas) l) l) all_fit
 
   -- it has a slot for each of them
-  pub never_refused : TooManyAreas ≡ answer_of areas l → ⊥
+  pub never_refused : (Err TooManyAreas) ≡ answer_of areas l → ⊥
   never_refused e = let clash : ◌≡◌ {A = ℕ} 3 0 = ap built_number (e ∙ answered) in omega arith
 
-  module _ {n : ℕ} (e : Done n ≡ answer_of areas l) where
+  module _ {n : ℕ} (e : Ok n ≡ answer_of areas l) where
     count_is : n ≡ length areas
     count_is = ap count_of (e ∙ answered)
       where
-        count_of : Built → ℕ
-        count_of (Done k) = k
-        count_of TooManyAreas = 0
+        count_of : Result ℕ AreasRefusal → ℕ
+        count_of (Ok k) = k
+        count_of (Err TooManyAreas) = 0
 
     -- the row has fewer slots than there are areas
-    pub refuses : {room : ℕ} (l' : List ℕ) → room < n → Finished areas room (record { slots = l'; count = 0; answer = TooManyAreas })
+    pub refuses : {room : ℕ} (l' : List ℕ) → room < n → Finished areas room (record { slots = l'; count = 0; answer = (Err TooManyAreas) })
     unfolding row_count
     refuses {room} l' h =
         let over : leb (length areas) room ≡ false = lt-leb (length areas) room (omega (arith, count_is)) in
         record { answer = rw over; count = rw over; most = omega arith; fits = omega arith; slots = refl }
 
     -- the row has a slot for each
-    pub finishes : {room : ℕ} {l' : List ℕ} → n ≤ room → l' ≡ table_of areas l → Finished areas room (record { slots = l'; count = n; answer = Done n })
+    pub finishes : {room : ℕ} {l' : List ℕ} → n ≤ room → l' ≡ table_of areas l → Finished areas room (record { slots = l'; count = n; answer = Ok n })
     unfolding row_count
     finishes {room} h t =
         let within : leb (length areas) room ≡ true = le-leb (length areas) room (omega (arith, count_is)) in
         record {
-          answer = rw within (ap Done count_is);
+          answer = rw within (ap Ok count_is);
           count = rw within count_is;
           most = omega (arith, few, count_is);
           fits = h;

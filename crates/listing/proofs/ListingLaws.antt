@@ -1,4 +1,5 @@
 -- The listings, counted as the code counts: by the number n of held entries. Assumes nothing.
+use Rattle.std.specs.Prelude.{Some, None}
 use mathlib.Core.Path.{◌≡◌, refl, ap, sym, ◌∙◌}
 use mathlib.Core.Bool.{Bool, true, false, cond}
 use mathlib.Core.List.{List, [], ◌∷◌}
@@ -6,7 +7,6 @@ use Prim.Native.Nat.{ℕ, suc, ◌+◌, ◌-◌, ◌<◌, ◌≤◌}
 use native.Mathlib.Omega.{arith}
 use lib.ListN.{length}
 use Rattle.entry.specs.declared.MemoryEntry.{MemoryEntry}
-use Rattle.entry.specs.declared.FoundEntry.TheVariants.{Entry, Nothing}
 use Rattle.memory.specs.Map.{Slots, at, put}
 use Rattle.listing.specs.Listing.{entries_from, those, laid, first}
 
@@ -36,11 +36,11 @@ module _ (t : MemoryEntry → Bool) (l : Slots) (n i : ℕ) where
   unfolding those entries_from
   those_leaves h e = rw (more n i h, e)
 
-  pub first_done : n ≤ i → first t (entries_from l (n - i) i) ≡ Nothing
+  pub first_done : n ≤ i → first t (entries_from l (n - i) i) ≡ None
   unfolding first entries_from
   first_done h = let e : n - i ≡ 0 = omega arith in rw e
 
-  pub first_takes : i < n → t (at l i) ≡ true → first t (entries_from l (n - i) i) ≡ Entry (at l i)
+  pub first_takes : i < n → t (at l i) ≡ true → first t (entries_from l (n - i) i) ≡ Some (at l i)
   unfolding first entries_from
   first_takes h e = rw (more n i h, e)
 

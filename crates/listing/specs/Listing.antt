@@ -1,8 +1,6 @@
 -- What a map lists: the held entries of a kind, or those of every other kind, in the order in which they are held.
-use Rattle.std.specs.Prelude.{◌≡◌, Bool, cond, not, List, [], ◌∷◌, ℕ, zero, suc, ◌+◌, ◌<◌, eqb, length}
+use Rattle.std.specs.Prelude.{◌≡◌, Bool, cond, not, List, [], ◌∷◌, ℕ, zero, suc, ◌+◌, ◌<◌, eqb, length, Option, Some, None}
 use Rattle.entry.specs.declared.MemoryEntry.{MemoryEntry}
-use Rattle.entry.specs.declared.FoundEntry.{FoundEntry}
-use Rattle.entry.specs.declared.FoundEntry.TheVariants.{Entry, Nothing}
 use Rattle.memory.specs.declared.MemoryMap.{MemoryMap}
 use Rattle.memory.specs.Map.{Slots, slots_of, at, put, blank, refilled}
 
@@ -40,11 +38,11 @@ unfoldable pub picked : ℕ → Bool → MemoryMap → MemoryMap
 picked kind wanted m = holding (those (wants kind wanted) (held m))
 
 -- the first entry of a list that passes a test
-unfoldable pub first : (MemoryEntry → Bool) → List MemoryEntry → FoundEntry
-first t [] = Nothing
-first t (e ∷ l) = cond (t e) (Entry e) (first t l)
+unfoldable pub first : (MemoryEntry → Bool) → List MemoryEntry → Option MemoryEntry
+first t [] = None
+first t (e ∷ l) = cond (t e) (Some e) (first t l)
 
-unfoldable pub first_of : ℕ → MemoryMap → FoundEntry
+unfoldable pub first_of : ℕ → MemoryMap → Option MemoryEntry
 first_of kind m = first (λ e. eqb e.kind kind) (held m)
 
 -- ── What `first_of` means, said of the slots ("`MemoryMap::register` and its listings"; the Rust's `kernel` finds the first) ──

@@ -1,4 +1,6 @@
 -- What a registration keeps: every call makes a map again, and a refused one leaves it as it was. For every page size p. Assumes nothing.
+use Rattle.memory.specs.declared.MapRefusal.TheVariants.{UnknownKind, MapFull}
+use Rattle.std.specs.Prelude.{Option, Some, None, Ok, Err}
 use mathlib.Core.Path.{◌≡◌, refl, ap, sym, ◌∙◌}
 use mathlib.Core.Bool.{Bool, true, false, cond, ◌||◌}
 use Prim.Native.Nat.{ℕ, suc, ◌+◌, ◌-◌, ◌<◌, ◌≤◌}
@@ -9,20 +11,18 @@ use borrow.Author.Tests.{le-leb, lt-leb, leb-true, leb-false, eq-eqb, ne_eqb, eq
 use Rattle.page.specs.Round.{Aligned, Page}
 use Rattle.page.proofs.Laws.{min_of, max_of}
 use Rattle.entry.specs.declared.MemoryEntry.{MemoryEntry}
-use Rattle.entry.specs.declared.KindRead.{KindRead}
-use Rattle.entry.specs.declared.KindRead.TheVariants.{Known, Unknown}
 use Rattle.entry.specs.declared.BootloaderMemoryKind.{BootloaderMemoryKind}
 use Rattle.entry.specs.declared.BootloaderMemoryKind.TheVariants.{Null}
 use Rattle.entry.specs.Kind.{number_of, IsKind, kind_of}
 use Rattle.entry.specs.Entry.{union}
-use Rattle.entry.specs.Claim.{Claim, rounded}
+use Rattle.entry.specs.declared.Claim.{Claim}
+use Rattle.entry.specs.Claim.{rounded}
 use Rattle.entry.proofs.KindLaws.{Reads, known, unknown, reads}
 use Rattle.entry.proofs.EntryLaws.{touch_sym, union_apart}
 use Rattle.entry.proofs.ClaimLaws.{rounded_kind, rounded_from, rounded_to, rounded_low}
 use Rattle.memory.specs.declared.MemoryMap.{MemoryMap}
-use Rattle.memory.specs.declared.Answer.TheVariants.{Done, UnknownKind, MapFull}
 use Rattle.memory.specs.declared.Registered.{Registered}
-use Rattle.memory.specs.Map.{slots_of, at, put, refilled, blank, answered, Absorbs, Pass, look, pass, begin, ended, placed, inserted, Something, nothing, judged, registered}
+use Rattle.memory.specs.Map.{slots_of, vacant, at, put, refilled, blank, answered, Absorbs, Pass, look, pass, begin, ended, placed, inserted, Something, nothing, judged, registered}
 use Rattle.memory.specs.Made.{Full, Good, Made}
 use Rattle.memory.proofs.SlotLaws.{from, from_below, from_other, from_apart, at_or_not, full_put, at_put_same, at_put_other, at_moved}
 use Rattle.memory.proofs.PassLaws.{here, absorbing, passing, look_ways, pass_keeps, pass_done}
@@ -136,22 +136,22 @@ made_ended p m s room g =
 
 -- a fact of what placing gives, from the two ways
 pub placed_ways : (m : MemoryMap) (s : Pass) (P : Registered → Type 0)
-    → (512 ≤ s.index → P (answered m MapFull)) → (s.index < 512 → P (answered (ended m s) Done)) → P (placed m s)
+    → (512 ≤ s.index → P (answered m (Err MapFull))) → (s.index < 512 → P (answered (ended m s) (Ok tt))) → P (placed m s)
 unfolding placed
 placed_ways m s P f g = go (leb 512 s.index) refl
   where
-    go : (t : Bool) → leb 512 s.index ≡ t → P (cond t (answered m MapFull) (answered (ended m s) Done))
+    go : (t : Bool) → leb 512 s.index ≡ t → P (cond t (answered m (Err MapFull)) (answered (ended m s) (Ok tt)))
     go true e = f (leb-true _ _ e)
     go false e = g (leb-false _ _ e)
 
 -- the three ways that a registration goes
 pub data Way (p : ℕ) (m : MemoryMap) (c : Claim) : Registered → Type 0 where
-  no_kind : (IsKind c.kind → ⊥) → Way p m c (answered m UnknownKind)
-  no_page : IsKind c.kind → (Something p c → ⊥) → Way p m c (answered m Done)
+  no_kind : (IsKind c.kind → ⊥) → Way p m c (answered m (Err UnknownKind))
+  no_page : IsKind c.kind → (Something p c → ⊥) → Way p m c (answered m (Ok tt))
   new_page : Something p c → Way p m c (inserted m (rounded p c))
 
-way : (p : ℕ) (m : MemoryMap) (c : Claim) (r : KindRead) → Reads c.kind r
-    → Way p m c (judged r m (cond (nothing p c) (answered m Done) (inserted m (rounded p c))))
+way : (p : ℕ) (m : MemoryMap) (c : Claim) (r : Option BootloaderMemoryKind) → Reads c.kind r
+    → Way p m c (judged r m (cond (nothing p c) (answered m (Ok tt)) (inserted m (rounded p c))))
 unfolding nothing
 way p m c r (unknown n) = no_kind n
 way p m c r (known k q) =
@@ -161,7 +161,7 @@ way p m c r (known k q) =
     is = record { kind = k; number = q }
 
     go : (t u v : Bool) → eqb c.kind (number_of Null) ≡ t → eqb c.size 0 ≡ u → leb (rounded p c).end (rounded p c).start ≡ v
-        → Way p m c (cond (t || (u || v)) (answered m Done) (inserted m (rounded p c)))
+        → Way p m c (cond (t || (u || v)) (answered m (Ok tt)) (inserted m (rounded p c)))
     go true u v e f g = no_page is (λ s. s.proper (eqb-true _ _ e))
     go false true v e f g = no_page is (λ s. s.sized (eqb-true _ _ f))
     go false false true e f g = no_page is (λ s. omega (arith, leb-true (rounded p c).end (rounded p c).start g, s.some))
@@ -173,24 +173,24 @@ unfolding registered
 registered_way p m c = way p m c (kind_of c.kind) (reads c.kind)
 
 -- ── The same, as the code tests them ──
-pub unknown_registered : (p : ℕ) (m : MemoryMap) (c : Claim) → Unknown ≡ kind_of c.kind → answered m UnknownKind ≡ registered p m c
+pub unknown_registered : (p : ℕ) (m : MemoryMap) (c : Claim) → None ≡ kind_of c.kind → answered m (Err UnknownKind) ≡ registered p m c
 unfolding registered
 unknown_registered p m c e = rw (← e)
 
-module _ (p : ℕ) (m : MemoryMap) (c : Claim) (k : BootloaderMemoryKind) (e : Known k ≡ kind_of c.kind) where
-  nothing_registered : nothing p c ≡ true → answered m Done ≡ registered p m c
+module _ (p : ℕ) (m : MemoryMap) (c : Claim) (k : BootloaderMemoryKind) (e : Some k ≡ kind_of c.kind) where
+  nothing_registered : nothing p c ≡ true → answered m (Ok tt) ≡ registered p m c
   unfolding registered
   nothing_registered t = rw (← e, t)
 
-  pub null_registered : c.kind ≡ number_of Null → answered m Done ≡ registered p m c
+  pub null_registered : c.kind ≡ number_of Null → answered m (Ok tt) ≡ registered p m c
   null_registered h = nothing_registered (unfold nothing in rw (eq-eqb _ _ h))
 
   module _ (proper : c.kind ≡ number_of Null → ⊥) where
-    pub none_registered : c.size ≡ 0 → answered m Done ≡ registered p m c
+    pub none_registered : c.size ≡ 0 → answered m (Ok tt) ≡ registered p m c
     none_registered h = nothing_registered (unfold nothing in rw (ne_eqb _ _ proper, eq-eqb _ _ h))
 
     module _ (sized : c.size ≡ 0 → ⊥) (r : MemoryEntry) (is : r ≡ rounded p c) where
-      pub empty_registered : r.end ≤ r.start → answered m Done ≡ registered p m c
+      pub empty_registered : r.end ≤ r.start → answered m (Ok tt) ≡ registered p m c
       empty_registered h = nothing_registered (unfold nothing in rw (ne_eqb _ _ proper, ne_eqb _ _ sized, ← is, le-leb _ _ h))
 
       pub some_registered : r.start < r.end → inserted m r ≡ registered p m c
@@ -236,7 +236,7 @@ pub blank_made : (p : ℕ) → Made p blank
 unfolding blank
 blank_made p =
     record {
-      slots = record { starts = length-replicate {A = ℕ} 512 0; ends = length-replicate {A = ℕ} 512 0; kinds = length-replicate {A = ℕ} 512 0 };
+      slots = length-replicate {A = MemoryEntry} 512 vacant;
       room = omega arith;
       each = λ j h. absurd (omega arith);
       apart = λ a b h. absurd (omega arith);
@@ -287,12 +287,12 @@ module _ (m : MemoryMap) (e : MemoryEntry) (s : Pass) (n : ℕ) (done : s.index 
   at_end : pass m.size (begin m e) ≡ s
   at_end = sym goes ∙ pass_done n s (omega arith)
 
-  pub inserted_full : m.size ≤ 512 → 512 ≤ n → answered (refilled m s.slots n) MapFull ≡ inserted m e
+  pub inserted_full : m.size ≤ 512 → 512 ≤ n → answered (refilled m s.slots n) (Err MapFull) ≡ inserted m e
   unfolding inserted placed
   inserted_full room h =
       rw (at_end, le-leb 512 s.index (omega arith), ← done)
-      (ap (λ (x : MemoryMap). answered x MapFull) (refused_whole m e s at_end room (omega arith)))
+      (ap (λ (x : MemoryMap). answered x (Err MapFull)) (refused_whole m e s at_end room (omega arith)))
 
-  pub inserted_room : n < 512 → answered (refilled m (put s.slots n s.new) (n + 1)) Done ≡ inserted m e
+  pub inserted_room : n < 512 → answered (refilled m (put s.slots n s.new) (n + 1)) (Ok tt) ≡ inserted m e
   unfolding inserted placed ended
   inserted_room h = rw (at_end, lt-leb 512 s.index (omega arith), done)

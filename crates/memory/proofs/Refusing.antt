@@ -1,11 +1,11 @@
 -- An answer that is not done, as a match on it tells. Assumes nothing.
+use Rattle.memory.specs.declared.MapRefusal.TheVariants.{UnknownKind, MapFull}
+use Rattle.memory.specs.declared.MapRefusal.{MapRefusal}
+use Rattle.std.specs.Prelude.{Result, Ok, Err}
 use mathlib.Core.Path.{◌≡◌, refl}
 use mathlib.Core.Bool.{false}
-use Rattle.memory.specs.declared.Answer.{Answer}
-use Rattle.memory.specs.declared.Answer.TheVariants.{Done, UnknownKind, MapFull}
 use Rattle.memory.specs.Run.{is_done}
 
-pub refused : (a : Answer) → (a ≡ Done → ⊥) → is_done a ≡ false
-refused Done k = absurd (k refl)
-refused UnknownKind k = refl
-refused MapFull k = refl
+pub refused : (a : Result Unit MapRefusal) → (a ≡ Ok tt → ⊥) → is_done a ≡ false
+refused (Ok _) k = absurd (k refl)
+refused (Err _) k = refl

@@ -8,7 +8,7 @@ use lib.ListN.{length-set}
 use lib.Seq.{get_or-set_same, get_or-set_other}
 use borrow.Author.Tests.{eq-eqb, ne_eqb, eqb-true, eqb-false}
 use Rattle.entry.specs.declared.MemoryEntry.{MemoryEntry}
-use Rattle.memory.specs.Map.{Slots, at, put}
+use Rattle.memory.specs.Map.{Slots, vacant, at, put}
 use Rattle.memory.specs.Made.{Full}
 
 -- where what stands in slot j came from, when the last moved into slot i
@@ -65,26 +65,15 @@ from_onto i last m hi hm n =
 
 pub full_put : (l : Slots) (i : ℕ) (e : MemoryEntry) → Full l → Full (put l i e)
 unfolding put
-full_put l i e f =
-    record { starts = simp length-set f.starts; ends = simp length-set f.ends; kinds = simp length-set f.kinds }
+full_put l i e f = simp length-set f
 
 pub at_put_same : (l : Slots) (i : ℕ) (e : MemoryEntry) → Full l → i < 512 → at (put l i e) i ≡ e
 unfolding at put
-at_put_same l i e f h =
-    rw (
-      get_or-set_same l.starts i e.start 0 (omega (arith, f.starts)),
-      get_or-set_same l.ends i e.end 0 (omega (arith, f.ends)),
-      get_or-set_same l.kinds i e.kind 0 (omega (arith, f.kinds)),
-    )
+at_put_same l i e f h = get_or-set_same l i e vacant (omega (arith, f))
 
 pub at_put_other : (l : Slots) (i j : ℕ) (e : MemoryEntry) → (j ≡ i → ⊥) → at (put l i e) j ≡ at l j
 unfolding at put
-at_put_other l i j e n =
-    rw (
-      get_or-set_other l.starts i j e.start 0 n,
-      get_or-set_other l.ends i j e.end 0 n,
-      get_or-set_other l.kinds i j e.kind 0 n,
-    )
+at_put_other l i j e n = get_or-set_other l i j e vacant n
 
 pub at_moved : (l : Slots) (i last j : ℕ) → Full l → i < 512 → at (put l i (at l last)) j ≡ at l (from i last j)
 at_moved l i last j f h =

@@ -9,11 +9,9 @@ use Rattle.entry.specs.Kind.{number_of, IsKind}
 use Rattle.memory.specs.declared.MemoryMap.{MemoryMap}
 use Rattle.memory.specs.Map.{Slots, slots_of, at, Absorbs}
 
--- every list of the slots is 512 long
-pub record Full (l : Slots) : Type 0 where
-  pub starts : length l.starts ≡ 512
-  pub ends : length l.ends ≡ 512
-  pub kinds : length l.kinds ≡ 512
+-- the slots are 512
+abbrev pub Full : Slots → Type 0
+Full l = length l ≡ 512
 
 -- a held entry: whole pages, not empty, up to the last page's start at most, of one of the kinds, and not of Null
 pub record Good (p : ℕ) (e : MemoryEntry) : Type 0 where

@@ -1,61 +1,56 @@
 -- The memory map, and what a registration does to it: document 01, "Rounding and the map".
-use Rattle.std.specs.Prelude.{◌≡◌, Bool, cond, ◌||◌, List, ℕ, zero, suc, ◌+◌, ◌<◌, leb, eqb, get_or, set, replicate}
+use Rattle.memory.specs.declared.MapRefusal.TheVariants.{UnknownKind, MapFull}
+use Rattle.memory.specs.declared.MapRefusal.{MapRefusal}
+use Rattle.entry.specs.declared.BootloaderMemoryKind.{BootloaderMemoryKind}
+use Rattle.std.specs.Prelude.{◌≡◌, Bool, cond, ◌||◌, List, ℕ, zero, suc, ◌+◌, ◌<◌, leb, eqb, get_or, set, replicate, Option, Some, None, Result, Ok, Err}
 use Rattle.entry.specs.declared.MemoryEntry.{MemoryEntry}
-use Rattle.entry.specs.declared.FoundEntry.{FoundEntry}
-use Rattle.entry.specs.declared.FoundEntry.TheVariants.{Entry, Nothing}
-use Rattle.entry.specs.declared.KindRead.{KindRead}
-use Rattle.entry.specs.declared.KindRead.TheVariants.{Known, Unknown}
 use Rattle.entry.specs.declared.BootloaderMemoryKind.TheVariants.{Null}
 use Rattle.entry.specs.Kind.{number_of, IsKind, kind_of}
 use Rattle.entry.specs.Entry.{entry, Touch, join}
-use Rattle.entry.specs.Claim.{Claim, rounded}
+use Rattle.entry.specs.declared.Claim.{Claim}
+use Rattle.entry.specs.Claim.{rounded}
 use Rattle.memory.specs.declared.MemoryMap.{MemoryMap}
-use Rattle.memory.specs.declared.Answer.{Answer}
-use Rattle.memory.specs.declared.Answer.TheVariants.{Done, UnknownKind, MapFull}
 use Rattle.memory.specs.declared.Registered.{Registered}
-use Rattle.memory.specs.declared.Admitted.{Admitted}
 
 -- "Numbers a caller gets back"
-abbrev pub answer_number : Answer → ℕ
-answer_number Done = 0
-answer_number UnknownKind = 1
-answer_number MapFull = 2
+abbrev pub refusal_number : MapRefusal → ℕ
+refusal_number UnknownKind = 1
+refusal_number MapFull = 2
 
--- the slots of a map: the entry in slot j has its start, its end and its kind at place j of three lists
-pub record Slots : Type 0 where
-  pub starts : List ℕ
-  pub ends : List ℕ
-  pub kinds : List ℕ
+abbrev pub answer_number : Result Unit MapRefusal → ℕ
+answer_number (Ok _) = 0
+answer_number (Err r) = refusal_number r
+
+-- the slots of a map: an entry in each
+abbrev pub Slots : Type 0
+Slots = List MemoryEntry
+
+-- what stands in a slot that was never held
+abbrev pub vacant : MemoryEntry
+vacant = entry 0 0 0
 
 unfoldable pub at : Slots → ℕ → MemoryEntry
-at l j = entry (get_or l.starts j 0) (get_or l.ends j 0) (get_or l.kinds j 0)
+at l j = get_or l j vacant
 
 unfoldable pub put : Slots → ℕ → MemoryEntry → Slots
-put l j e = record { starts = set l.starts j e.start; ends = set l.ends j e.end; kinds = set l.kinds j e.kind }
-
-abbrev pub slots_as : List ℕ → List ℕ → List ℕ → Slots
-slots_as s e k = record { starts = s; ends = e; kinds = k }
+put l j e = set l j e
 
 abbrev pub slots_of : MemoryMap → Slots
-slots_of m = slots_as m.starts m.ends m.kinds
+slots_of m = m.entries
 
-abbrev pub map_of : List ℕ → List ℕ → List ℕ → ℕ → MemoryMap
-map_of s e k n = record { starts = s; ends = e; kinds = k; size = n }
+abbrev pub map_of : Slots → ℕ → MemoryMap
+map_of l n = record { entries = l; size = n }
 
 -- the map with other slots and another count, and all else as it was
 abbrev pub refilled : MemoryMap → Slots → ℕ → MemoryMap
-refilled m l n = record { starts = l.starts; ends = l.ends; kinds = l.kinds; size = n }
+refilled m l n = map_of l n
 
 -- "The map has 512 entries. It starts empty"
 unfoldable pub blank : MemoryMap
-blank = map_of (replicate 512 0) (replicate 512 0) (replicate 512 0) 0
+blank = map_of (replicate 512 vacant) 0
 
-abbrev pub answered : MemoryMap → Answer → Registered
+abbrev pub answered : MemoryMap → Result Unit MapRefusal → Registered
 answered m a = record { map = m; answer = a }
-
--- what a registration in place leaves, as one value
-abbrev pub left : Admitted → List ℕ → List ℕ → List ℕ → Registered
-left r s e k = answered (map_of s e k r.size) r.answer
 
 -- "each held entry of its kind that overlaps or touches it"
 pub record Absorbs (new held : MemoryEntry) : Type 0 where
@@ -63,8 +58,8 @@ pub record Absorbs (new held : MemoryEntry) : Type 0 where
   pub near : Touch new held
 
 -- the union of the two where that is so
-unfoldable pub absorb : MemoryEntry → MemoryEntry → FoundEntry
-absorb new held = cond (eqb new.kind held.kind) (join new held) Nothing
+unfoldable pub absorb : MemoryEntry → MemoryEntry → Option MemoryEntry
+absorb new held = cond (eqb new.kind held.kind) (join new held) None
 
 -- a pass over the held entries under way: the new entry so far, the slots, and the next slot to look at.
 -- How many slots are left to look at stands beside it
@@ -74,9 +69,9 @@ pub record Pass : Type 0 where
   pub index : ℕ
 
 -- "the last entry moves into the emptied slot, and that slot is looked at again": the last is k slots further on
-abbrev pub step : ℕ → Pass → FoundEntry → Pass
-step k s (Entry both) = record { new = both; slots = put s.slots s.index (at s.slots (s.index + k)); index = s.index }
-step k s Nothing = record { new = s.new; slots = s.slots; index = s.index + 1 }
+abbrev pub step : ℕ → Pass → Option MemoryEntry → Pass
+step k s (Some both) = record { new = both; slots = put s.slots s.index (at s.slots (s.index + k)); index = s.index }
+step k s None = record { new = s.new; slots = s.slots; index = s.index + 1 }
 
 -- one look at a slot: k slots are left to look at after it, whichever way it goes
 unfoldable pub look : ℕ → Pass → Pass
@@ -96,7 +91,7 @@ ended m s = refilled m (put s.slots s.index s.new) (s.index + 1)
 
 -- where no slot is left for it: the map as it was
 unfoldable pub placed : MemoryMap → Pass → Registered
-placed m s = cond (leb 512 s.index) (answered m MapFull) (answered (ended m s) Done)
+placed m s = cond (leb 512 s.index) (answered m (Err MapFull)) (answered (ended m s) (Ok tt))
 
 unfoldable pub inserted : MemoryMap → MemoryEntry → Registered
 inserted m e = placed m (pass m.size (begin m e))
@@ -113,10 +108,10 @@ unfoldable pub nothing : ℕ → Claim → Bool
 nothing p c = eqb c.kind (number_of Null) || (eqb c.size 0 || leb (rounded p c).end (rounded p c).start)
 
 -- the kind is judged first, "size 0 included"
-abbrev pub judged : KindRead → MemoryMap → Registered → Registered
-judged Unknown m r = answered m UnknownKind
-judged (Known k) m r = r
+abbrev pub judged : Option BootloaderMemoryKind → MemoryMap → Registered → Registered
+judged None m r = answered m (Err UnknownKind)
+judged (Some k) m r = r
 
 unfoldable pub registered : ℕ → MemoryMap → Claim → Registered
 registered p m c =
-    judged (kind_of c.kind) m (cond (nothing p c) (answered m Done) (inserted m (rounded p c)))
+    judged (kind_of c.kind) m (cond (nothing p c) (answered m (Ok tt)) (inserted m (rounded p c)))

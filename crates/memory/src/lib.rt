@@ -4,152 +4,52 @@
 ghost use Rattle.std.specs.Prelude.{◌≡◌, ◌≤◌};
 ghost use Rattle.entry.specs.Kind.{number_of};
 ghost use Rattle.entry.specs.Claim.{claim};
-ghost use Rattle.memory.specs.Map.{map_of, blank, answer_number, absorb, inserted, registered, left};
+ghost use Rattle.memory.specs.Map.{blank, refusal_number, answered, absorb, inserted, registered};
 ghost use Rattle.memory.specs.Made.{Made};
 
-use entry::{BootloaderMemoryKind, FoundEntry, KindRead, MemoryEntry};
+use entry::{BootloaderMemoryKind, Claim, MemoryEntry};
+use numbers::Numbered;
 
-// The map: 512 slots, of which the first `size` are held. Slot i is the entry starts[i], ends[i], kinds[i].
+// The map: 512 slots, of which the first `size` are held.
 #[derive(Clone, Copy)]
 pub struct MemoryMap {
-    pub starts: [u64; 512],
-    pub ends: [u64; 512],
-    pub kinds: [u64; 512],
+    pub entries: [MemoryEntry; 512],
     pub size: usize,
 }
 
-// What a registration answers. Each case has its number in document 01.
+// Why a registration is refused. Each case has its number in document 01.
 #[derive(Clone, Copy)]
-pub enum Answer {
-    Done,
+pub enum MapRefusal {
     UnknownKind,
     MapFull,
 }
 
-impl Answer {
-    pub fn number(self) -> u8
-        ensures { result ≡ answer_number self }
-    {
+impl Numbered for MapRefusal {
+    ghost number_of = { refusal_number };
+
+    fn number(self) -> u8 {
         match self {
-            Answer::Done => 0,
-            Answer::UnknownKind => 1,
-            Answer::MapFull => 2,
+            MapRefusal::UnknownKind => 1,
+            MapRefusal::MapFull => 2,
         }
     }
 }
 
-// The map stands before the answer so that its copies stay aligned.
+// A map by value after a registration. The map stands before the answer so that its copies stay aligned.
 #[derive(Clone, Copy)]
 pub struct Registered {
     pub map: MemoryMap,
-    pub answer: Answer,
-}
-
-// What a registration in place answers, and how many entries are held then.
-#[derive(Clone, Copy)]
-pub struct Admitted {
-    pub size: usize,
-    pub answer: Answer,
+    pub answer: Result<(), MapRefusal>,
 }
 
 // The union of a new entry and a held one, where the held one is of its kind and overlaps or touches it.
-fn absorbed(new: MemoryEntry, held: MemoryEntry) -> FoundEntry
+fn absorbed(new: MemoryEntry, held: MemoryEntry) -> Option<MemoryEntry>
     ensures { result ≡ absorb new held }
 {
     if new.kind != held.kind {
-        return FoundEntry::Nothing;
+        return None;
     }
     new.combine(held)
-}
-
-// A new entry absorbs each held entry of its kind that overlaps or touches it, and goes last.
-fn insert_in(
-    starts: &mut [u64; 512],
-    ends: &mut [u64; 512],
-    kinds: &mut [u64; 512],
-    size: usize,
-    entry: MemoryEntry,
-) -> Admitted
-    requires { size ≤ 512 }
-    ensures { left result starts.new ends.new kinds.new ≡ inserted (map_of starts.old ends.old kinds.old size) entry }
-{
-    let mut new = entry;
-    let mut n = size;
-    let mut index: usize = 0;
-    while index < n {
-        let held = MemoryEntry {
-            start: starts[index],
-            end: ends[index],
-            kind: kinds[index],
-        };
-        match absorbed(new, held) {
-            FoundEntry::Entry(both) => {
-                new = both;
-                n -= 1;
-                starts[index] = starts[n];
-                ends[index] = ends[n];
-                kinds[index] = kinds[n];
-            }
-            FoundEntry::Nothing => {
-                index += 1;
-            }
-        }
-    }
-    if 512 <= n {
-        return Admitted {
-            size: n,
-            answer: Answer::MapFull,
-        };
-    }
-    starts[n] = new.start;
-    ends[n] = new.end;
-    kinds[n] = new.kind;
-    Admitted {
-        size: n + 1,
-        answer: Answer::Done,
-    }
-}
-
-// Registers a range in a map that stands in three lent arrays, of which `size` slots are held.
-// A source that registers many ranges works so, since a map by value is copied at each call.
-pub fn register_in(
-    starts: &mut [u64; 512],
-    ends: &mut [u64; 512],
-    kinds: &mut [u64; 512],
-    size: usize,
-    base: u64,
-    len: u64,
-    kind: u64,
-) -> Admitted
-    requires { Made 4096 (map_of starts.old ends.old kinds.old size) }
-    ensures { left result starts.new ends.new kinds.new ≡ registered 4096 (map_of starts.old ends.old kinds.old size) (claim base len kind) }
-{
-    let KindRead::Known(_) = entry::kind_of(kind) else {
-        return Admitted {
-            size,
-            answer: Answer::UnknownKind,
-        };
-    };
-    if kind == 0 {
-        return Admitted {
-            size,
-            answer: Answer::Done,
-        };
-    }
-    if len == 0 {
-        return Admitted {
-            size,
-            answer: Answer::Done,
-        };
-    }
-    let pages = entry::round(base, len, kind);
-    if pages.end <= pages.start {
-        return Admitted {
-            size,
-            answer: Answer::Done,
-        };
-    }
-    insert_in(starts, ends, kinds, size, pages)
 }
 
 impl MemoryMap {
@@ -157,34 +57,72 @@ impl MemoryMap {
     pub fn empty() -> MemoryMap
         ensures { result ≡ blank }
     {
+        let vacant = MemoryEntry {
+            start: 0,
+            end: 0,
+            kind: 0,
+        };
         MemoryMap {
-            starts: [0u64; 512],
-            ends: [0u64; 512],
-            kinds: [0u64; 512],
+            entries: [vacant; 512],
             size: 0,
         }
     }
 
+    // A new entry absorbs each held entry of its kind that overlaps or touches it, and goes last.
+    fn insert(&mut self, entry: MemoryEntry) -> Result<(), MapRefusal>
+        requires { self.old.size ≤ 512 }
+        ensures { answered self.new result ≡ inserted self.old entry }
+    {
+        let mut new = entry;
+        let mut index: usize = 0;
+        while index < self.size {
+            match absorbed(new, self.entries[index]) {
+                Some(both) => {
+                    new = both;
+                    self.size -= 1;
+                    self.entries[index] = self.entries[self.size];
+                }
+                None => {
+                    index += 1;
+                }
+            }
+        }
+        if 512 <= self.size {
+            return Err(MapRefusal::MapFull);
+        }
+        self.entries[self.size] = new;
+        self.size += 1;
+        Ok(())
+    }
+
+    // Registers a range in a map that is lent. A source that registers many ranges works so, since a map by value is copied at each call.
+    pub fn register_in(&mut self, claim: Claim) -> Result<(), MapRefusal>
+        requires { Made 4096 self.old }
+        ensures { answered self.new result ≡ registered 4096 self.old claim }
+    {
+        let Some(_) = entry::kind_of(claim.kind) else {
+            return Err(MapRefusal::UnknownKind);
+        };
+        if claim.kind == 0 {
+            return Ok(());
+        }
+        if claim.size == 0 {
+            return Ok(());
+        }
+        let pages = entry::round(claim);
+        if pages.end <= pages.start {
+            return Ok(());
+        }
+        self.insert(pages)
+    }
+
     // Registers a range by the number of its kind.
-    pub fn register(self, base: u64, size: u64, kind: u64) -> Registered
+    pub fn register(mut self, base: u64, size: u64, kind: u64) -> Registered
         requires { Made 4096 self }
         ensures { result ≡ registered 4096 self (claim base size kind) }
     {
-        let mut starts = self.starts;
-        let mut ends = self.ends;
-        let mut kinds = self.kinds;
-        let held = self.size;
-        let r = register_in(&mut starts, &mut ends, &mut kinds, held, base, size, kind);
-        let answer = r.answer;
-        Registered {
-            map: MemoryMap {
-                starts,
-                ends,
-                kinds,
-                size: r.size,
-            },
-            answer,
-        }
+        let answer = self.register_in(Claim { base, size, kind });
+        Registered { map: self, answer }
     }
 }
 

@@ -1,2 +1,24 @@
-// The number of an answer, as a definition and the one law by which every theorem on a number is proved. Nothing here runs.
+// The number of an answer: a trait of the refusals, a definition, and the one law by which every theorem on a number is proved.
 #![tactic(auto)]
+
+ghost use Rattle.std.specs.Prelude.{◌≡◌, ℕ, Ok, Err};
+
+// What has a number that a caller gets back.
+pub trait Numbered {
+    ghost number_of: { Self → ℕ };
+
+    fn number(self) -> u8
+        ensures { result ≡ number_of self };
+}
+
+// "0 is done"; a refusal has its own.
+impl<T: Drop, E: Numbered> Numbered for Result<T, E> {
+    ghost number_of = { elim [ Ok _ ↦ 0 | Err e ↦ E.number_of e ] };
+
+    fn number(self) -> u8 {
+        match self {
+            Ok(_) => 0,
+            Err(e) => e.number(),
+        }
+    }
+}

@@ -1,5 +1,9 @@
 -- The test of an order file says whether it keeps the layout, and it is refused exactly when it does not; and in one that does, the list
 -- and the tree are parts of its bytes. Assumes nothing.
+use Rattle.order.specs.declared.OrderFault.TheVariants.{BadOrder}
+use Rattle.order.specs.declared.OrderFault.{OrderFault}
+use Rattle.order.specs.declared.Order.{Order}
+use Rattle.std.specs.Prelude.{Result, Ok, Err}
 use mathlib.Core.Path.{◌≡◌, refl, sym, ◌∙◌, ap}
 use mathlib.Core.Logic.{◌↔◌, ◌⊎◌, inl, inr}
 use Prim.Native.Nat.{ℕ, ◌+◌, ◌*◌, ◌≤◌, ◌<◌}
@@ -15,16 +19,14 @@ use Rattle.words.specs.Bytes.{part_of}
 use Rattle.words.specs.Little.{half, quarter, eight}
 use Rattle.words.proofs.BytesLaws.{never, part_length}
 use Rattle.order.specs.Layout.{flags, low_flag, high_flag, list_count, tree_length, GoodOrder, good_order, order_in, order_number, order_of}
-use Rattle.order.specs.declared.OrderRead.{OrderRead}
-use Rattle.order.specs.declared.OrderRead.TheVariants.{Layout, BadOrder}
 
 -- 9 names its case
 order_names : Names order_number
-order_names = record { back = λ n. BadOrder; named = each }
+order_names = record { back = λ n. (Err BadOrder); named = each }
   where
-    each : (o : OrderRead) → (order_number o ≡ 0) ⊎ (BadOrder ≡ o)
-    each (Layout o) = inl refl
-    each BadOrder = inr refl
+    each : (o : Result Order OrderFault) → (order_number o ≡ 0) ⊎ ((Err BadOrder) ≡ o)
+    each (Ok o) = inl refl
+    each (Err BadOrder) = inr refl
 
 both : (x y : Bool) → (x && y) ≡ true → (x ≡ true) × (y ≡ true)
 both true y h = (refl, h)
@@ -102,18 +104,18 @@ module _ (s : List ℕ) where
       go false h = sym h
 
   -- ── The answer ──
-  pub order_bad : good_order s ≡ false → order_of s ≡ BadOrder
+  pub order_bad : good_order s ≡ false → order_of s ≡ (Err BadOrder)
   unfolding order_of
   order_bad e = rw e
 
-  pub order_good : good_order s ≡ true → order_of s ≡ Layout (order_in s)
+  pub order_good : good_order s ≡ true → order_of s ≡ Ok (order_in s)
   unfolding order_of
   order_good e = rw e
 
-  bad_case : (order_of s ≡ BadOrder) ↔ (GoodOrder s → ⊥)
+  bad_case : (order_of s ≡ (Err BadOrder)) ↔ (GoodOrder s → ⊥)
   bad_case = (to_bad, λ n. order_bad (sym (bad_order n)))
     where
-      to_bad : order_of s ≡ BadOrder → GoodOrder s → ⊥
+      to_bad : order_of s ≡ (Err BadOrder) → GoodOrder s → ⊥
       to_bad h g =
           let e = order_good (from_good g) in
           let z : ◌≡◌ {A = ℕ} 0 1 = cc in
@@ -121,7 +123,7 @@ module _ (s : List ℕ) where
 
   -- 9: "order file breaks its layout, or is longer than 65,536"
   pub number_9 : (order_number (order_of s) ≡ 9) ↔ (GoodOrder s → ⊥)
-  number_9 = given order_names BadOrder (λ z. omega arith) bad_case
+  number_9 = given order_names (Err BadOrder) (λ z. omega arith) bad_case
 
   -- "0 is done"
   pub number_0 : (order_number (order_of s) ≡ 0) ↔ GoodOrder s

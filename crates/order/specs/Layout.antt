@@ -1,12 +1,10 @@
 -- The order file: document 01, "Order file and report". Little-endian.
-use Rattle.std.specs.Prelude.{◌≡◌, ℕ, ◌+◌, ◌*◌, ◌≤◌, ◌<◌, ◌%◌, ◌/◌, min, List, Bool, false, cond, ◌&&◌, ◌||◌, length, get_or, eqb, leb, ltb}
+use Rattle.order.specs.declared.OrderFault.TheVariants.{BadOrder}
+use Rattle.order.specs.declared.OrderFault.{OrderFault}
+use Rattle.std.specs.Prelude.{◌≡◌, ℕ, ◌+◌, ◌*◌, ◌≤◌, ◌<◌, ◌%◌, ◌/◌, min, List, Bool, false, cond, ◌&&◌, ◌||◌, length, get_or, eqb, leb, ltb, Option, Some, None, Result, Ok, Err}
 use Rattle.words.specs.Little.{half, quarter, eight}
 use Rattle.cells.specs.declared.Region.{Region}
-use Rattle.areas.specs.declared.Limit.{Limit}
-use Rattle.areas.specs.declared.Limit.TheVariants.{At, Missing}
 use Rattle.order.specs.declared.Order.{Order}
-use Rattle.order.specs.declared.OrderRead.{OrderRead}
-use Rattle.order.specs.declared.OrderRead.TheVariants.{Layout, BadOrder}
 
 -- ── The fields ──
 abbrev pub flags : List ℕ → ℕ
@@ -66,8 +64,8 @@ good_order s =
     && eqb (length s) (112 + list_count s * 24 + tree_length s))))))))))
 
 -- ── What it says ──
-abbrev pub limit_by : Bool → ℕ → Limit
-limit_by flagged x = cond flagged (At x) Missing
+abbrev pub limit_by : Bool → ℕ → Option ℕ
+limit_by flagged x = cond flagged (Some x) None
 
 -- "24 five pairs base, size: kernel, env, hwdesc, bootstrap, stack"
 abbrev pub pair_at : List ℕ → ℕ → Region
@@ -89,13 +87,13 @@ order_in s =
     }
 
 -- "Numbers a caller gets back"
-abbrev pub order_number : OrderRead → ℕ
-order_number (Layout o) = 0
-order_number BadOrder = 9
+abbrev pub order_number : Result Order OrderFault → ℕ
+order_number (Ok o) = 0
+order_number (Err BadOrder) = 9
 
 -- 9: "order file breaks its layout, or is longer than 65,536"
-unfoldable pub order_of : List ℕ → OrderRead
-order_of s = cond (good_order s) (Layout (order_in s)) BadOrder
+unfoldable pub order_of : List ℕ → Result Order OrderFault
+order_of s = cond (good_order s) (Ok (order_in s)) (Err BadOrder)
 
 -- ── What follows a file ──
 -- how many bytes at the start of s are the order file, whatever follows it: its length is what its header says; all of them where s is

@@ -1,4 +1,5 @@
 -- Demand 3 over an order file: of all its sources together, whatever the lent slots. Assumes nothing.
+use Rattle.std.specs.Prelude.{Option, ℕ, Ok}
 use mathlib.Core.Path.{◌≡◌, sym, ◌∙◌, ap, ap₂}
 use mathlib.Core.List.{List}
 use mathlib.Core.Logic.{◌↔◌, ⊎_elim}
@@ -8,11 +9,9 @@ use lib.ListN.{length}
 use borrow.Author.Tests.{le-leb}
 use Rattle.page.specs.Round.{Page}
 use Rattle.entry.specs.declared.MemoryEntry.{MemoryEntry}
-use Rattle.entry.specs.Claim.{Claim}
+use Rattle.entry.specs.declared.Claim.{Claim}
 use Rattle.memory.specs.declared.MemoryMap.{MemoryMap}
 use Rattle.listing.specs.Listing.{held}
-use Rattle.areas.specs.declared.Limit.{Limit}
-use Rattle.areas.specs.declared.Built.TheVariants.{Done as BuildDone}
 use Rattle.areas.specs.Interval.{Interval, Listed}
 use Rattle.areas.specs.Areas.{free_of}
 use Rattle.areas.specs.Shape.{Shape}
@@ -40,7 +39,7 @@ use Rattle.order_theorems.proofs.Rows.{done_exactly, done_writes, done_accepted}
 flip : {cs ds : List Claim} → SameClaims cs ds → SameClaims ds cs
 flip e c = ((e c).1, (e c).0)
 
-module _ (p : ℕ) (low high : Limit) (g : Page p) where
+module _ (p : ℕ) (low high : Option ℕ) (g : Page p) where
   there : {cs ds : List Claim} (x : ℕ) → SameClaims cs ds → FreeThere p low high cs x → FreeThere p low high ds x
   there x e f =
       record {
@@ -67,12 +66,12 @@ module _ (p : ℕ) (low high : Limit) (g : Page p) where
       ∙ sym (free_counted p low high ds g b (2 ^ 64) all_pages)
 
 -- the limits count only as they are rounded
-pages_limits : (p : ℕ) (low high low' high' : Limit) (m : MemoryMap) → SameLimits p low high low' high'
+pages_limits : (p : ℕ) (low high low' high' : Option ℕ) (m : MemoryMap) → SameLimits p low high low' high'
     → free_pages p low high m ≡ free_pages p low' high' m
 unfolding free_pages
 pages_limits p low high low' high' m e = ap (λ (limits : MemoryEntry). free_in p limits (free_of (held m))) e
 
-sheets_alike : (p : ℕ) (low high low' high' : Limit) (cs ds : List Claim) → Page p → Accepted p cs → Accepted p ds
+sheets_alike : (p : ℕ) (low high low' high' : Option ℕ) (cs ds : List Claim) → Page p → Accepted p cs → Accepted p ds
     → SameLimits p low high low' high' → SameClaims cs ds
     → map_sheet p low high (map_after p cs) ≡ map_sheet p low' high' (map_after p ds)
 unfolding map_sheet
@@ -96,9 +95,9 @@ module _ (p : ℕ) (g : Page p) (s l : List ℕ) (n : ℕ) (sheet : PageSheet) (
   unfolding table_of
   table = let d = (done_exactly p s l g n sheet).0 done in done_writes p s l n sheet done ∙ rw (le-leb _ _ room, d.1)
 
-  pub built : Builds p (map_after p (file_claims s)) (order_in s).low (order_in s).high l (slots_after p s l) (BuildDone n)
+  pub built : Builds p (map_after p (file_claims s)) (order_in s).low (order_in s).high l (slots_after p s l) (Ok n)
   unfolding answer_of
-  built = let d = (done_exactly p s l g n sheet).0 done in record { answer = rw (le-leb _ _ room) (ap BuildDone d.1); table = table }
+  built = let d = (done_exactly p s l g n sheet).0 done in record { answer = rw (le-leb _ _ room) (ap Ok d.1); table = table }
 
   -- demand 3: "An address lies in a listed area exactly when it is inside the limits .., some single Free registration .. and .. no .. other"
   pub file_address_rule : (x : ℕ) → Listed x (file_areas p s) ↔ Rule p (order_in s).low (order_in s).high (file_claims s) x
@@ -114,7 +113,7 @@ module _ (p : ℕ) (g : Page p) (s l : List ℕ) (n : ℕ) (sheet : PageSheet) (
   file_slots = build_slots p (order_in s).low (order_in s).high (file_claims s) g accepted built
 
   -- demand 3: "Deal the registrations of all sources together in any order .. If no call is refused, the finished areas are the same bytes"
-  pub file_any_order : (low high : Limit) (ds : List Claim) → SameLimits p (order_in s).low (order_in s).high low high → SameClaims (file_claims s) ds
+  pub file_any_order : (low high : Option ℕ) (ds : List Claim) → SameLimits p (order_in s).low (order_in s).high low high → SameClaims (file_claims s) ds
       → Accepted p ds → slots_after p s l ≡ table_of (areas_after p low high ds) l
   file_any_order low high ds limits e a =
       table

@@ -1,5 +1,6 @@
 -- Demand 3 over an order file and the late claims behind it, as the program `late` makes them, up to the first refusal: request L3 of
 -- document 02. Assumes nothing.
+use Rattle.std.specs.Prelude.{Option, ℕ, Ok}
 use mathlib.Core.Path.{◌≡◌, refl, ap, sym, ◌∙◌}
 use mathlib.Core.Bool.{Bool, true, false}
 use mathlib.Core.List.{List, [], ◌∷◌, ◌++◌, append-nil, append_assoc}
@@ -7,9 +8,8 @@ use Prim.Native.Nat.{ℕ, zero, suc, ◌+◌, ◌-◌, ◌≤◌}
 use native.Mathlib.Omega.{arith}
 use lib.ListN.{take}
 use Rattle.page.specs.Round.{Page}
-use Rattle.entry.specs.Claim.{Claim}
+use Rattle.entry.specs.declared.Claim.{Claim}
 use Rattle.memory.specs.declared.MemoryMap.{MemoryMap}
-use Rattle.areas.specs.declared.Limit.{Limit}
 use Rattle.demand3.specs.Rule.{map_after, SameClaims, SameLimits}
 use Rattle.demand3.specs.Slots.{number_slot, SlotsRight}
 use Rattle.sheet.specs.declared.PageSheet.{PageSheet}
@@ -19,7 +19,6 @@ use Rattle.startup.specs.declared.Report.{Report}
 use Rattle.startup.specs.declared.Report.TheVariants.{Done, Refused}
 use Rattle.startup.specs.Report.{report_of, slots_after}
 use Rattle.startup.specs.Start.{kept_map, file_map, map_left}
-use Rattle.late_claim.specs.declared.LateAnswer.TheVariants.{Done as AllMade}
 use Rattle.late_claim.specs.Late.{After, late_of}
 use Rattle.late_run.specs.Run.{Run, run, stopped, late_all}
 use Rattle.late_run.proofs.Running.{run_on, run_stops}
@@ -32,16 +31,16 @@ use Rattle.order_theorems.proofs.Rows.{done_accepted}
 use Rattle.order_theorems.proofs.Demand.{built}
 
 -- ── A run of late claims ──
-run_none : (p : ℕ) (m : MemoryMap) (n : ℕ) (l : List ℕ) (i : ℕ) → late_all p m n l i [] ≡ run m n l i AllMade
+run_none : (p : ℕ) (m : MemoryMap) (n : ℕ) (l : List ℕ) (i : ℕ) → late_all p m n l i [] ≡ run m n l i (Ok tt)
 unfolding late_all
 run_none p m n l i = refl
 
 -- the claims that the run r made of those in ds, the first of which has index i, are registrations behind those in cs
-record Deals (p : ℕ) (low high : Limit) (cs ds : List Claim) (i : ℕ) (r : Run) : Type 0 where
+record Deals (p : ℕ) (low high : Option ℕ) (cs ds : List Claim) (i : ℕ) (r : Run) : Type 0 where
   index : i ≤ r.index
   dealt : Dealt p low high (cs ++ take (r.index - i) ds) r.map r.count r.table
 
-run_dealt : {p : ℕ} {low high : Limit} {cs : List Claim} {m : MemoryMap} {n : ℕ} {l : List ℕ} → Dealt p low high cs m n l
+run_dealt : {p : ℕ} {low high : (Option ℕ)} {cs : List Claim} {m : MemoryMap} {n : ℕ} {l : List ℕ} → Dealt p low high cs m n l
     → (ds : List Claim) (i : ℕ) (r : Run) → r ≡ late_all p m n l i ds → Deals p low high cs ds i r
 run_dealt {p} {low} {high} {cs} {m} {n} {l} h [] i r e =
     let z : i - i ≡ 0 = omega arith in

@@ -1,4 +1,5 @@
 -- The page sheet of an order file: its counts from the registrations page by page, both below 2^52, and its share. Assumes nothing.
+use Rattle.std.specs.Prelude.{Option, ℕ}
 use mathlib.Core.Path.{◌≡◌, refl, ◌∙◌}
 use mathlib.Core.Bool.{Bool, true, false, cond, ◌&&◌}
 use mathlib.Core.List.{List, map}
@@ -16,7 +17,6 @@ use Rattle.memory.specs.declared.MemoryMap.{MemoryMap}
 use Rattle.memory.specs.Map.{slots_of}
 use Rattle.memory.specs.Made.{Made, Good}
 use Rattle.listing.specs.Listing.{held, wants}
-use Rattle.areas.specs.declared.Limit.{Limit}
 use Rattle.areas.specs.Interval.{Interval}
 use Rattle.areas.specs.Areas.{limit_of, span, free_of, areas_of}
 use Rattle.areas.proofs.Lists.{Every}
@@ -68,7 +68,7 @@ some_page zero p h = absurd (omega (arith, zero-mul p))
 some_page (suc n) p h = omega arith
 
 -- n pages reach past every address
-module _ {p : ℕ} {m : MemoryMap} (made : Made p m) (g : Page p) (low high : Limit) (n : ℕ) (all : 2 ^ 64 ≤ n * p) where
+module _ {p : ℕ} {m : MemoryMap} (made : Made p m) (g : Page p) (low high : Option ℕ) (n : ℕ) (all : 2 ^ 64 ≤ n * p) where
   abbrev limits : MemoryEntry
   limits = limit_of p low high
 
@@ -110,11 +110,11 @@ module _ {p : ℕ} (g : Page p) (large : 4096 ≤ p) where
   all_pages = let h : 2 ^ 52 * 4096 ≤ 2 ^ 52 * p = mul-le-mul_left (2 ^ 52) large in le_trans (lit≤ tt) h
 
   -- "two counts below 2^52": the Free pages of a map inside the limits
-  pub free_few : {m : MemoryMap} → Made p m → (low high : Limit) → free_pages p low high m < 2 ^ 52
+  pub free_few : {m : MemoryMap} → Made p m → (low high : Option ℕ) → free_pages p low high m < 2 ^ 52
   free_few made low high = few_free made g low high (2 ^ 52) all_pages
 
   -- and its usable pages, which are no more
-  pub usable_few : {m : MemoryMap} → Made p m → (low high : Limit) → usable_in p (areas_of p low high m) < 2 ^ 52
+  pub usable_few : {m : MemoryMap} → Made p m → (low high : Option ℕ) → usable_in p (areas_of p low high m) < 2 ^ 52
   usable_few made low high = omega (arith, free_few made low high, usable_free made g low high (2 ^ 52) all_pages)
 
 -- ── An order file ──

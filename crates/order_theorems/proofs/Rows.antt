@@ -1,5 +1,8 @@
 -- The table of document 01, "Numbers a caller gets back", over whole order files: every number is given exactly when its row says so and
 -- no row above it does; a refused build writes nothing, and a finished one its areas. Assumes nothing.
+use Rattle.memory.specs.declared.MapRefusal.TheVariants.{UnknownKind as RunUnknown, MapFull as RunFull}
+use Rattle.memory.specs.declared.MapRefusal.{MapRefusal}
+use Rattle.std.specs.Prelude.{Result, Ok, Err}
 use mathlib.Core.Path.{◌≡◌, refl, sym, ◌∙◌, ap, subst}
 use mathlib.Core.Logic.{◌↔◌, ◌⊎◌, inl, inr, ⊎_elim}
 use mathlib.Core.Bool.{Bool, true, false, cond}
@@ -15,8 +18,6 @@ use Rattle.numbers.proofs.Given.{given}
 use Rattle.words.proofs.BytesLaws.{never}
 use Rattle.page.specs.Round.{Page}
 use Rattle.entry.specs.Kind.{kind_of}
-use Rattle.memory.specs.declared.Answer.{Answer}
-use Rattle.memory.specs.declared.Answer.TheVariants.{Done as RunDone, UnknownKind as RunUnknown, MapFull as RunFull}
 use Rattle.memory.specs.declared.Registered.{Registered}
 use Rattle.memory.specs.Map.{blank}
 use Rattle.memory.specs.Run.{is_done}
@@ -45,8 +46,6 @@ use Rattle.tree_theorems.proofs.ClaimKinds.{claims_known}
 use Rattle.tree_theorems.proofs.Judging.{judged_7, judged_8, judged_0}
 use Rattle.startup.specs.declared.Refusal.{Refusal}
 use Rattle.startup.specs.declared.Refusal.TheVariants.{BadOrder, UnknownKind, BadHeader, OverLimit, BadStructure, UnreadableReg, UnreadableRanges, MapFull, TooManyAreas}
-use Rattle.startup.specs.declared.Verdict.{Verdict}
-use Rattle.startup.specs.declared.Verdict.TheVariants.{Accepted as Taken, Rejected}
 use Rattle.startup.specs.declared.Report.{Report}
 use Rattle.startup.specs.declared.Report.TheVariants.{Done, Refused}
 use Rattle.startup.specs.Sources.{list_in, claims_by, tree_claims, pair_claims, registrations}
@@ -203,7 +202,7 @@ module _ (p : ℕ) (s l : List ℕ) where
       go false e = due TooManyAreas c (λ g. leb-false _ _ e)
 
   -- under a verdict
-  abbrev Under : Verdict → Type 0
+  abbrev Under : Result Unit Refusal → Type 0
   Under v = Says (verdict_report v (finished (file_areas p s) file_sheet l)) (verdict_slots v l (table_of (file_areas p s) l))
 
   -- 2
@@ -211,16 +210,16 @@ module _ (p : ℕ) (s l : List ℕ) where
   unfolding map_verdict
   by_map k c = go run.answer refl
     where
-      full : Page p → (run.answer ≡ RunFull) ↔ Row p s l MapFull
+      full : Page p → (run.answer ≡ Err RunFull) ↔ Row p s l MapFull
       full g = run_full p blank (file_claims s) g (blank_made p)
 
-      go : (a : Answer) → run.answer ≡ a → Under (cond (is_done a) Taken (Rejected MapFull))
-      go RunDone e = by_areas e (next MapFull c (λ g w. let f = (full g).1 w in never (cc)))
-      go RunUnknown e = absurd (run_known p blank (file_claims s) (sources_known s o k) e)
-      go RunFull e = due MapFull c (λ g. (full g).0 e)
+      go : (a : Result Unit MapRefusal) → run.answer ≡ a → Under (cond (is_done a) (Ok tt) (Err MapFull))
+      go (Ok tt) e = by_areas e (next MapFull c (λ g w. let f = (full g).1 w in never (cc)))
+      go (Err RunUnknown) e = absurd (run_known p blank (file_claims s) (sources_known s o k) e)
+      go (Err RunFull) e = due MapFull c (λ g. (full g).0 e)
 
   -- under a verdict on the tree, where the map's comes next
-  abbrev UnderTree : Verdict → Type 0
+  abbrev UnderTree : Result Unit Refusal → Type 0
   UnderTree v = Under (first_of v (map_verdict run))
 
   -- 7 and 8
@@ -345,10 +344,10 @@ module _ (p : ℕ) (s l : List ℕ) where
       built true k sheet e = f (sym e)
       built false k sheet e = t (sym e)
 
-      go : (v : Verdict)
+      go : (v : Result Unit Refusal)
           → (verdict_number v ≡ n) ↔ (report_number (verdict_report v (finished (file_areas p s) file_sheet l)) ≡ n)
-      go (Rejected r) = (λ e. e, λ e. e)
-      go Taken = (λ e. absurd (f (sym e)), λ e. absurd (built (fits (file_areas p s) l) _ _ e))
+      go (Err r) = (λ e. e, λ e. e)
+      go (Ok tt) = (λ e. absurd (f (sym e)), λ e. absurd (built (fits (file_areas p s) l) _ _ e))
 
   -- DONE EXACTLY WHEN no row holds, and then with the count of the areas and their page sheet
   pub done_exactly : Page p → (n : ℕ) (sheet : PageSheet)

@@ -1,6 +1,6 @@
 -- The table of document 01, "Numbers a caller gets back", over an order file's bytes s and the lent slots l.
 use Rattle.std.specs.Prelude.{◌≡◌, ◌↔◌, ℕ, ◌<◌, List, length}
-use Rattle.entry.specs.Claim.{Claim}
+use Rattle.entry.specs.declared.Claim.{Claim}
 use Rattle.memory.specs.Map.{blank}
 use Rattle.bootloader.specs.List.{claims}
 use Rattle.runs.specs.Sets.{Some}

@@ -1,4 +1,5 @@
 -- The tests on the registrations, read as the rule of demand 3 says them. Assumes nothing.
+use Rattle.std.specs.Prelude.{Option, Some, ℕ}
 use mathlib.Core.List.{List}
 use mathlib.Core.Bool.{not, ◌&&◌}
 use Prim.Native.Nat.{ℕ, ◌-◌, ◌*◌, ◌^◌, ◌≤◌, ◌<◌}
@@ -8,9 +9,9 @@ use Rattle.entry.specs.declared.MemoryEntry.{MemoryEntry}
 use Rattle.entry.specs.declared.BootloaderMemoryKind.TheVariants.{Null, Free}
 use Rattle.entry.specs.Kind.{number_of}
 use Rattle.entry.specs.Entry.{Has}
-use Rattle.entry.specs.Claim.{Claim, inward, outward}
+use Rattle.entry.specs.declared.Claim.{Claim}
+use Rattle.entry.specs.Claim.{inward, outward}
 use Rattle.runs.specs.Sets.{Some}
-use Rattle.areas.specs.declared.Limit.{Limit}
 use Rattle.areas.specs.Areas.{or_else}
 use Rattle.demand3.specs.Rule.{FreeOver, OtherOver}
 use Rattle.page_count.specs.Pages.{has, free_over, other_over, any, free_at, taken_at}
@@ -38,12 +39,12 @@ module _ (p x : ℕ) (c : Claim) where
       (λ h. record { kind = h.0; proper = h.1.0; sized = h.1.1.0; covers = h.1.1.1 }, λ h. (h.kind, (h.proper, (h.sized, h.covers))))
 
 -- an address inside the limits, under a Free registration
-pub record FreeThere (p : ℕ) (low high : Limit) (cs : List Claim) (x : ℕ) : Type 0 where
+pub record FreeThere (p : ℕ) (low high : Option ℕ) (cs : List Claim) (x : ℕ) : Type 0 where
   pub from : up p (or_else low 0) ≤ x
   pub to : x < down p (or_else high (2 ^ 64 - 1))
   pub free : Some (FreeOver p x) cs
 
-pub free_at_reads : (p : ℕ) (low high : Limit) (cs : List Claim) (i : ℕ) → Reads (free_at p low high cs i) (FreeThere p low high cs (i * p))
+pub free_at_reads : (p : ℕ) (low high : Option ℕ) (cs : List Claim) (i : ℕ) → Reads (free_at p low high cs i) (FreeThere p low high cs (i * p))
 unfolding free_at
 free_at_reads p low high cs i =
     reads_as (leb (up p (or_else low 0)) (i * p) && (ltb (i * p) (down p (or_else high (2 ^ 64 - 1))) && any (free_over p (i * p)) cs))

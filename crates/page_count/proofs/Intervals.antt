@@ -1,5 +1,6 @@
 -- The pages of intervals, counted: of one interval of whole pages, of a list of them that never overlap, and of entries cut to limits.
 -- Assumes nothing.
+use Rattle.std.specs.Prelude.{Option}
 use mathlib.Core.Path.{◌≡◌, refl, sym, ◌∙◌}
 use mathlib.Core.List.{List, [], ◌∷◌, map}
 use mathlib.Core.Bool.{Bool, true, false, ◌&&◌, ◌||◌}
@@ -11,7 +12,6 @@ use lib.Dec.{leb, ltb}
 use Rattle.page.specs.Round.{top, Aligned, Page}
 use Rattle.page.proofs.Laws.{min_of, max_of}
 use Rattle.entry.specs.declared.MemoryEntry.{MemoryEntry}
-use Rattle.entry.specs.declared.FoundEntry.{FoundEntry}
 use Rattle.entry.specs.Entry.{overlap, meet}
 use Rattle.entry.proofs.EntryLaws.{Meets, some, none, meets}
 use Rattle.memory.specs.Made.{Good}
@@ -110,7 +110,7 @@ module _ (p n : ℕ) (g : Page p) (all : 2 ^ 64 ≤ n * p) where
     unfolding overlap
     cut_counted f w = go (meet f limits) (meets f limits)
       where
-        go : (m : FoundEntry) → Meets f limits m → pages_of p m ≡ count_to n (cut_inside p limits (span f))
+        go : (m : Option MemoryEntry) → Meets f limits m → pages_of p m ≡ count_to n (cut_inside p limits (span f))
         go m (some h) =
             let c : Interval = span (overlap f limits) in
             one_counted c

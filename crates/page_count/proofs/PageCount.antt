@@ -1,5 +1,6 @@
 -- The page sheet's counts, page by page: from the entries and areas of a map that are apart (Intervals), and from the rule of demand 3 (Claims).
 -- Assumes nothing.
+use Rattle.std.specs.Prelude.{Option, ℕ}
 use mathlib.Core.Path.{◌≡◌, sym, ◌∙◌}
 use mathlib.Core.List.{List, map}
 use mathlib.Core.Bool.{true, not, ◌&&◌}
@@ -10,11 +11,10 @@ use Rattle.page.proofs.Laws.{up_aligned, down_aligned}
 use Rattle.entry.specs.declared.MemoryEntry.{MemoryEntry}
 use Rattle.entry.specs.declared.BootloaderMemoryKind.TheVariants.{Free}
 use Rattle.entry.specs.Kind.{number_of}
-use Rattle.entry.specs.Claim.{Claim}
+use Rattle.entry.specs.declared.Claim.{Claim}
 use Rattle.memory.specs.Map.{slots_of}
 use Rattle.memory.specs.Made.{Made, Good}
 use Rattle.listing.specs.Listing.{held, wants}
-use Rattle.areas.specs.declared.Limit.{Limit}
 use Rattle.areas.specs.Interval.{Interval}
 use Rattle.areas.specs.Areas.{limit_of, span, free_of}
 use Rattle.areas.proofs.Lists.{Every}
@@ -30,7 +30,7 @@ use Rattle.page_count.proofs.Intervals.{listed, listed_reads, cut_listed, cuts_r
 use Rattle.page_count.proofs.Claims.{free_at_reads, taken_at_reads}
 
 -- n pages reach past every address
-module _ (p : ℕ) (low high : Limit) (cs : List Claim) (g : Page p) (a : Accepted p cs) (n : ℕ) (all : 2 ^ 64 ≤ n * p) where
+module _ (p : ℕ) (low high : Option ℕ) (cs : List Claim) (g : Page p) (a : Accepted p cs) (n : ℕ) (all : 2 ^ 64 ≤ n * p) where
   made : Made p (map_after p cs)
   made = after_made p cs g
 

@@ -9,7 +9,7 @@ use Prim.Native.Nat.{ℕ, ◌≤◌, ◌<◌}
 use native.Mathlib.Omega.{arith}
 use lib.Dec.{eqb, leb, ltb}
 use borrow.Author.Tests.{le-leb, leb-true, lt-ltb, ltb-true, eq-eqb, eqb-true}
-use Rattle.entry.specs.Claim.{Claim}
+use Rattle.entry.specs.declared.Claim.{Claim}
 use Rattle.runs.specs.Sets.{Some}
 use Rattle.page_count.specs.Pages.{any}
 

@@ -1,12 +1,12 @@
 -- Document 01, "Page sheet": "Usable plus the Free pages inside the limits that a non-Free registration, rounded, covers, counted from the
 -- registrations page by page, equals Free."
-use Rattle.std.specs.Prelude.{ℕ, zero, suc, ◌*◌, ◌-◌, ◌^◌, List, [], ◌∷◌, Bool, false, cond, not, ◌&&◌, ◌||◌, eqb, leb, ltb}
+use Rattle.std.specs.Prelude.{ℕ, zero, suc, ◌*◌, ◌-◌, ◌^◌, List, [], ◌∷◌, Bool, false, cond, not, ◌&&◌, ◌||◌, eqb, leb, ltb, Option}
 use Rattle.page.specs.Round.{down, up}
 use Rattle.entry.specs.declared.MemoryEntry.{MemoryEntry}
 use Rattle.entry.specs.declared.BootloaderMemoryKind.TheVariants.{Null, Free}
 use Rattle.entry.specs.Kind.{number_of}
-use Rattle.entry.specs.Claim.{Claim, inward, outward}
-use Rattle.areas.specs.declared.Limit.{Limit}
+use Rattle.entry.specs.declared.Claim.{Claim}
+use Rattle.entry.specs.Claim.{inward, outward}
 use Rattle.areas.specs.Areas.{or_else}
 
 -- how many of the numbers below n pass a test
@@ -32,7 +32,7 @@ any t [] = false
 any t (c ∷ cs) = t c || any t cs
 
 -- page i is Free, inside the limits
-unfoldable pub free_at : ℕ → Limit → Limit → List Claim → ℕ → Bool
+unfoldable pub free_at : ℕ → Option ℕ → Option ℕ → List Claim → ℕ → Bool
 free_at p low high cs i =
     leb (up p (or_else low 0)) (i * p) && (ltb (i * p) (down p (or_else high (2 ^ 64 - 1))) && any (free_over p (i * p)) cs)
 

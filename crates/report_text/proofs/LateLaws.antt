@@ -1,5 +1,7 @@
 -- Laws of the text of late claims: which line is the last, and the whole text by what the build reported.
 -- Assumes nothing.
+use Rattle.late_claim.specs.declared.LateRefusal.{LateRefusal}
+use Rattle.std.specs.Prelude.{Result}
 use mathlib.Core.Path.{◌≡◌, sym, ap, ◌∙◌}
 use mathlib.Core.List.{List, ◌++◌}
 use Prim.Native.Nat.{ℕ, ◌-◌, ◌/◌, min}
@@ -18,7 +20,6 @@ use Rattle.startup.specs.Report.{report_of, slots_after}
 use Rattle.startup.specs.Start.{map_left, Starts}
 use Rattle.startup.proofs.StartLaws.{left_made}
 use Rattle.report_text.specs.Text.{count_line, area_lines, refused_line}
-use Rattle.late_claim.specs.declared.LateAnswer.{LateAnswer}
 use Rattle.late_claim.specs.Late.{late_number}
 use Rattle.late_claim.proofs.Claiming.{zero_done, other}
 use Rattle.late_run.specs.declared.LateRun.{LateRun}
@@ -26,7 +27,7 @@ use Rattle.late_run.specs.Run.{Run, late_all, ran}
 use Rattle.report_text.specs.LateText.{made_line, refused_at_line, last_line, lines_of, run_text, text_behind, late_text, late_slots}
 
 -- ── The last line: k is the answer's number ──
-module _ (a : LateAnswer) (i : ℕ) {k : ℕ} (is : k ≡ late_number a) where
+module _ (a : Result Unit LateRefusal) (i : ℕ) {k : ℕ} (is : k ≡ late_number a) where
   pub last_made : k ≡ 0 → made_line i ≡ last_line a i
   last_made z = rw (zero_done a (sym is ∙ z))
 
@@ -34,7 +35,7 @@ module _ (a : LateAnswer) (i : ℕ) {k : ℕ} (is : k ≡ late_number a) where
   last_refused f = ap (λ (n : ℕ). refused_at_line n i) is ∙ sym (other a (λ z. f (is ∙ z)) (made_line i) (refused_at_line (late_number a) i))
 
 -- ── The areas and the last line ──
-pub lines_of_lem : (n : ℕ) {k : ℕ} (l : List ℕ) (a : LateAnswer) (i : ℕ) → length l ≡ 1024 → k ≡ min n 512
+pub lines_of_lem : (n : ℕ) {k : ℕ} (l : List ℕ) (a : Result Unit LateRefusal) (i : ℕ) → length l ≡ 1024 → k ≡ min n 512
     → count_line n ++ (area_lines l k 0 ++ last_line a i) ≡ lines_of n l a i
 unfolding lines_of
 lines_of_lem n {k} l a i slots is =

@@ -1,4 +1,5 @@
 -- What the text of late claims says beside the report: document 02, request L3, its program. Assumes nothing.
+use Rattle.std.specs.Prelude.{Ok}
 use mathlib.Core.Path.{◌≡◌, refl}
 use mathlib.Core.List.{List, ◌++◌}
 use Prim.Native.Nat.{ℕ, ◌/◌, ◌<◌}
@@ -14,7 +15,6 @@ use Rattle.startup.specs.declared.Report.{Report}
 use Rattle.startup.specs.declared.Report.TheVariants.{Done, Refused}
 use Rattle.startup.specs.Report.{report_number, report_of, slots_after}
 use Rattle.report_text.specs.Text.{count_line, area_lines, pages_line, text_of, report_text}
-use Rattle.late_claim.specs.declared.LateAnswer.TheVariants.{Done as LateDone}
 use Rattle.late_run.specs.Run.{run, late_all}
 use Rattle.report_text.specs.LateText.{made_line, lines_of, text_by, text_behind, late_text}
 
@@ -24,7 +24,7 @@ unfolding late_text
 split_text p g t l = rw (file_before g t, file_behind g t)
 
 -- fewer than 24 bytes are no claim
-few_claims : (p : ℕ) (m : MemoryMap) (n : ℕ) (l t : List ℕ) → length t < 24 → late_all p m n l 0 (claims t) ≡ run m n l 0 LateDone
+few_claims : (p : ℕ) (m : MemoryMap) (n : ℕ) (l t : List ℕ) → length t < 24 → late_all p m n l 0 (claims t) ≡ run m n l 0 (Ok tt)
 unfolding late_all claims_at
 few_claims p m n l t h = let e : length t / 24 ≡ 0 = omega arith in rw e
 

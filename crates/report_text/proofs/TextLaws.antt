@@ -1,5 +1,6 @@
 -- Laws of the report's lines: how long they are, the share's text at each answer, one area more behind the others and the loop that puts
 -- them; and the whole text at each report. Assumes nothing.
+use Rattle.std.specs.Prelude.{Option, Some, None, ℕ}
 use mathlib.Core.Path.{◌≡◌, refl, sym, ap, ◌∙◌}
 use mathlib.Core.List.{List, [], ◌++◌, append_assoc, append-nil}
 use Prim.Native.Nat.{ℕ, zero, suc, ◌+◌, ◌*◌, ◌/◌, ◌≤◌, ◌<◌, min}
@@ -9,8 +10,6 @@ use native.Mathlib.Numerals.{add-one}
 use lib.ListN.{length, get_or, length-append}
 use lib.Seq.{paste-zero}
 use Rattle.sheet.specs.declared.PageSheet.{PageSheet}
-use Rattle.sheet.specs.declared.ShareBits.{ShareBits}
-use Rattle.sheet.specs.declared.ShareBits.TheVariants.{NoBits, Bits}
 use Rattle.sheet.specs.Share.{share_of, bits_of}
 use Rattle.startup.specs.declared.Refusal.{Refusal}
 use Rattle.startup.specs.declared.Report.{Report}
@@ -23,21 +22,21 @@ use Rattle.report_text.proofs.DigitsLaws.{hex_length, decimal_length}
 use Rattle.report_text.proofs.WritingLaws.{same_text, kept, writes_append}
 
 -- ── The share ──
-bits_length : (r : ShareBits) → length (bits_text r) ≤ 16
-bits_length NoBits = omega arith
-bits_length (Bits b) = omega (arith, hex_length b)
+bits_length : (r : Option ℕ) → length (bits_text r) ≤ 16
+bits_length None = omega arith
+bits_length (Some b) = omega (arith, hex_length b)
 
 module _ (s : PageSheet) where
   pub share_length : length (share_text s) ≤ 16
   unfolding share_text
   share_length = bits_length (bits_of (share_of s.free s.usable))
 
-  module _ {r : ShareBits} (is : r ≡ bits_of (share_of s.free s.usable)) where
-    pub share_none : r ≡ NoBits → bits_text NoBits ≡ share_text s
+  module _ {r : (Option ℕ)} (is : r ≡ bits_of (share_of s.free s.usable)) where
+    pub share_none : r ≡ None → bits_text None ≡ share_text s
     unfolding share_text
     share_none e = ap bits_text (sym e ∙ is)
 
-    pub share_bits : {b : ℕ} → r ≡ Bits b → hex_text b ≡ share_text s
+    pub share_bits : {b : ℕ} → r ≡ Some b → hex_text b ≡ share_text s
     unfolding share_text
     share_bits e = ap bits_text (sym e ∙ is)
 

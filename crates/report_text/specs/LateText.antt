@@ -1,5 +1,6 @@
 -- The text of late claims behind an order file, byte for byte: document 02, request L3.
-use Rattle.std.specs.Prelude.{ℕ, List, [], ◌∷◌, ◌++◌, take, drop}
+use Rattle.late_claim.specs.declared.LateRefusal.{LateRefusal}
+use Rattle.std.specs.Prelude.{ℕ, List, [], ◌∷◌, ◌++◌, take, drop, Result}
 use Rattle.sheet.specs.Sheet.{slots_to}
 use Rattle.bootloader.specs.List.{claims}
 use Rattle.order.specs.Layout.{file_end}
@@ -9,7 +10,6 @@ use Rattle.startup.specs.Verdict.{refusal_number}
 use Rattle.startup.specs.Report.{report_of, slots_after}
 use Rattle.startup.specs.Start.{map_left}
 use Rattle.report_text.specs.Text.{newline, decimal_text, count_line, area_lines, refused_line}
-use Rattle.late_claim.specs.declared.LateAnswer.{LateAnswer}
 use Rattle.late_claim.specs.Late.{late_number, on_done}
 use Rattle.late_run.specs.Run.{Run, late_all}
 
@@ -26,11 +26,11 @@ unfoldable pub refused_at_line : ℕ → ℕ → List ℕ
 refused_at_line k i =
     labelled (114 ∷ 101 ∷ 102 ∷ 117 ∷ 115 ∷ 101 ∷ 100 ∷ 32 ∷ []) k ++ (labelled (32 ∷ 97 ∷ 116 ∷ 32 ∷ []) i ++ newline)
 
-abbrev pub last_line : LateAnswer → ℕ → List ℕ
+abbrev pub last_line : Result Unit LateRefusal → ℕ → List ℕ
 last_line a i = on_done a (made_line i) (refused_at_line (late_number a) i)
 
 -- `areas N`, "the N area lines as the report does", and the last line: n areas stand in l
-unfoldable pub lines_of : ℕ → List ℕ → LateAnswer → ℕ → List ℕ
+unfoldable pub lines_of : ℕ → List ℕ → Result Unit LateRefusal → ℕ → List ℕ
 lines_of n l a i = count_line n ++ (area_lines l (slots_to l n) 0 ++ last_line a i)
 
 abbrev pub run_text : Run → List ℕ

@@ -1,9 +1,7 @@
 -- The report's text, byte for byte: document 01, "Order file and report".
-use Rattle.std.specs.Prelude.{ℕ, zero, suc, ◌+◌, ◌/◌, cond, List, [], ◌∷◌, ◌++◌, ltb, get_or}
+use Rattle.std.specs.Prelude.{ℕ, zero, suc, ◌+◌, ◌/◌, cond, List, [], ◌∷◌, ◌++◌, ltb, get_or, Option, Some, None}
 use Rattle.io.specs.Digits.{last_digits}
 use Rattle.sheet.specs.declared.PageSheet.{PageSheet}
-use Rattle.sheet.specs.declared.ShareBits.{ShareBits}
-use Rattle.sheet.specs.declared.ShareBits.TheVariants.{NoBits, Bits}
 use Rattle.sheet.specs.Share.{share_of, bits_of}
 use Rattle.sheet.specs.Sheet.{slots_to}
 use Rattle.startup.specs.declared.Report.{Report}
@@ -44,9 +42,9 @@ area_lines l zero i = []
 area_lines l (suc n) i = area_line (get_or l (i + i) 0) (get_or l (i + i + 1) 0) ++ area_lines l n (i + 1)
 
 -- "the share's bits, hex (or `none`)"
-abbrev pub bits_text : ShareBits → List ℕ
-bits_text NoBits = 110 ∷ 111 ∷ 110 ∷ 101 ∷ []
-bits_text (Bits b) = hex_text b
+abbrev pub bits_text : Option ℕ → List ℕ
+bits_text None = 110 ∷ 111 ∷ 110 ∷ 101 ∷ []
+bits_text (Some b) = hex_text b
 
 -- the share of the sheet's two counts: a sheet that a build gives has no other
 unfoldable pub share_text : PageSheet → List ℕ

@@ -1,4 +1,5 @@
 -- Whatever the union of two entries has exactly when one of them has it, a registration adds to a map as to a set. Assumes nothing.
+use Rattle.std.specs.Prelude.{Ok}
 use mathlib.Core.Path.{◌≡◌}
 use mathlib.Core.Logic.{◌↔◌, ◌⊎◌, inl, inr, ⊎_elim}
 use Prim.Native.Nat.{ℕ, suc, ◌+◌, ◌<◌}
@@ -6,9 +7,9 @@ use native.Mathlib.Omega.{arith}
 use Rattle.page.specs.Round.{Page}
 use Rattle.entry.specs.declared.MemoryEntry.{MemoryEntry}
 use Rattle.entry.specs.Entry.{union}
-use Rattle.entry.specs.Claim.{Claim, rounded}
+use Rattle.entry.specs.declared.Claim.{Claim}
+use Rattle.entry.specs.Claim.{rounded}
 use Rattle.memory.specs.declared.MemoryMap.{MemoryMap}
-use Rattle.memory.specs.declared.Answer.TheVariants.{Done}
 use Rattle.memory.specs.declared.Registered.{Registered}
 use Rattle.memory.specs.Map.{Slots, at, put, Absorbs, Pass, pass, begin, ended, inserted, Something, registered}
 use Rattle.memory.specs.Made.{Full, Good, Made}
@@ -111,14 +112,14 @@ pub record Adds (Q : MemoryEntry → Type 0) (p : ℕ) (c : Claim) : Type 0 wher
 
 -- an accepted registration: what was held, and what the claim adds
 pub registered_has : (Q : MemoryEntry → Type 0) → Shared Q → (p : ℕ) (m : MemoryMap) (c : Claim) → Page p → Made p m
-    → (registered p m c).answer ≡ Done → Held Q (registered p m c).map ↔ (Held Q m ⊎ Adds Q p c)
+    → (registered p m c).answer ≡ (Ok tt) → Held Q (registered p m c).map ↔ (Held Q m ⊎ Adds Q p c)
 registered_has Q g p m c pg made done = go (registered p m c) (registered_way p m c) done
   where
-    new : (s : Something p c) → (inserted m (rounded p c)).answer ≡ Done → Held Q (inserted m (rounded p c)).map ↔ (Held Q m ⊎ Adds Q p c)
+    new : (s : Something p c) → (inserted m (rounded p c)).answer ≡ (Ok tt) → Held Q (inserted m (rounded p c)).map ↔ (Held Q m ⊎ Adds Q p c)
     new s =
         let h = pass_has Q g p m (rounded p c) made (rounded_good p c pg s) in
         unfold inserted in
-        placed_ways m (pass m.size (begin m (rounded p c))) (λ q. q.answer ≡ Done → Held Q q.map ↔ (Held Q m ⊎ Adds Q p c))
+        placed_ways m (pass m.size (begin m (rounded p c))) (λ q. q.answer ≡ (Ok tt) → Held Q q.map ↔ (Held Q m ⊎ Adds Q p c))
         (λ l z. absurd (let z : ◌≡◌ {A = ℕ} 0 1 = cc in omega arith))
         (λ l z.
         let t = ended_has Q m _ (going_end p m (rounded p c) made (rounded_good p c pg s)).full l in (
@@ -126,7 +127,7 @@ registered_has Q g p m c pg made done = go (registered p m c) (registered_way p 
           λ w. t.0 (h.0 (⊎_elim (λ v. inl v) (λ a. inr a.inside) w)),
         ))
 
-    go : (r : Registered) → Way p m c r → r.answer ≡ Done → Held Q r.map ↔ (Held Q m ⊎ Adds Q p c)
+    go : (r : Registered) → Way p m c r → r.answer ≡ (Ok tt) → Held Q r.map ↔ (Held Q m ⊎ Adds Q p c)
     go r (no_kind n) e = absurd (let z : ◌≡◌ {A = ℕ} 0 1 = cc in omega arith)
     go r (no_page i n) e = (λ w. inl w, ⊎_elim (λ w. w) (λ a. absurd (n a.something)))
     go r (new_page s) e = new s e

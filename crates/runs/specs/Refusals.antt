@@ -1,10 +1,10 @@
 -- When a registration and a list are refused: document 01, "Rounding and the map" and "Numbers a caller gets back".
-use Rattle.std.specs.Prelude.{◌≡◌, ℕ, ◌<◌}
+use Rattle.std.specs.Prelude.{◌≡◌, ℕ, ◌<◌, Ok}
 use mathlib.Core.List.{List, ◌∷◌, ◌++◌, Memᴰ}
 use Rattle.entry.specs.Kind.{IsKind}
-use Rattle.entry.specs.Claim.{Claim, rounded}
+use Rattle.entry.specs.declared.Claim.{Claim}
+use Rattle.entry.specs.Claim.{rounded}
 use Rattle.memory.specs.declared.MemoryMap.{MemoryMap}
-use Rattle.memory.specs.declared.Answer.TheVariants.{Done}
 use Rattle.memory.specs.Map.{slots_of, at, Absorbs, Something}
 use Rattle.memory.specs.Run.{registered_all}
 
@@ -27,5 +27,5 @@ pub record Overflows (p : ℕ) (m : MemoryMap) (cs : List Claim) : Type 0 where
   pub next : Claim
   pub after : List Claim
   pub run : cs ≡ before ++ (next ∷ after)
-  pub accepted : (registered_all p m before).answer ≡ Done
+  pub accepted : (registered_all p m before).answer ≡ (Ok tt)
   pub refused : Refused p (registered_all p m before).map next

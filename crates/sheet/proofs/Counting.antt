@@ -1,5 +1,6 @@
 -- The loop of `free_pages`: the pages counted so far, with those of the entries still to come, are the Free pages of them all.
 -- Each entry has 2 ^ 52 pages at most, so that the count of 512 fits. Assumes nothing.
+use Rattle.std.specs.Prelude.{Option, Some, None, ℕ}
 use mathlib.Core.Path.{◌≡◌}
 use mathlib.Core.List.{List, ◌∷◌}
 use mathlib.Core.Bool.{true}
@@ -9,23 +10,20 @@ use native.Mathlib.Omega.{arith}
 use lib.ListN.{get_or}
 use borrow.Author.Tests.{eq-eqb, ne_eqb}
 use Rattle.entry.specs.declared.MemoryEntry.{MemoryEntry}
-use Rattle.entry.specs.declared.FoundEntry.{FoundEntry}
-use Rattle.entry.specs.declared.FoundEntry.TheVariants.{Entry, Nothing}
 use Rattle.entry.specs.Entry.{entry, overlap, meet}
 use Rattle.entry.proofs.EntryLaws.{Meets, some, none, meets}
 use Rattle.memory.specs.declared.MemoryMap.{MemoryMap}
 use Rattle.memory.specs.Map.{slots_as, at}
 use Rattle.listing.specs.Listing.{entries_from, those, wants}
-use Rattle.areas.specs.declared.Limit.{Limit}
 use Rattle.areas.specs.Areas.{limit_of, free_of}
 use Rattle.areas.proofs.Those.{those_takes, those_skips}
 use Rattle.sheet.specs.Sheet.{pages_of, free_in, free_pages}
 
 -- what an entry and the limits share is nonempty
-pub meet_some : (a b c : MemoryEntry) → Entry c ≡ meet a b → c.start < c.end
+pub meet_some : (a b c : MemoryEntry) → Some c ≡ meet a b → c.start < c.end
 meet_some a b c e = go (meet a b) (meets a b) e
   where
-    go : (r : FoundEntry) → Meets a b r → Entry c ≡ r → c.start < c.end
+    go : (r : Option MemoryEntry) → Meets a b r → Some c ≡ r → c.start < c.end
     go r (some h) f = let same : c ≡ overlap a b = cc in rw same h
     go r (none h) f = absurd (let z : ◌≡◌ {A = ℕ} 0 1 = cc in omega arith)
 
@@ -76,21 +74,21 @@ module _ {p : ℕ} {limits : MemoryEntry} {ss es ks : List ℕ} {n pages i : ℕ
     passes f e = step 0 (rw (next, those_skips (wants 1 true) (at (slots_as ss es ks) i) (entries_from (slots_as ss es ks) (n - (i + 1)) (i + 1)) (ne_eqb (get_or ks i 0) 1 f)) (omega arith)) (omega arith) (omega arith)
 
     module _ (f : get_or ks i 0 ≡ 1) where
-      takes : (r : FoundEntry) → r ≡ meet (entry (get_or ss i 0) (get_or es i 0) 1) limits → togo p limits ss es ks n i ≡ pages_of p r + togo p limits ss es ks n (i + 1)
+      takes : (r : Option MemoryEntry) → r ≡ meet (entry (get_or ss i 0) (get_or es i 0) 1) limits → togo p limits ss es ks n i ≡ pages_of p r + togo p limits ss es ks n (i + 1)
       unfolding togo free_in at
       takes r is = rw (next, those_takes (wants 1 true) (at (slots_as ss es ks) i) (entries_from (slots_as ss es ks) (n - (i + 1)) (i + 1)) (eq-eqb (get_or ks i 0) 1 f), f, ← is)
 
       -- a Free entry outside the limits
-      pub misses : {pages' : ℕ} → Nothing ≡ meet (entry (get_or ss i 0) (get_or es i 0) 1) limits → pages' ≡ pages → Counting p limits ss es ks n pages' (i + 1)
-      misses is e = step 0 (takes Nothing is) (omega arith) (omega arith)
+      pub misses : {pages' : ℕ} → None ≡ meet (entry (get_or ss i 0) (get_or es i 0) 1) limits → pages' ≡ pages → Counting p limits ss es ks n pages' (i + 1)
+      misses is e = step 0 (takes None is) (omega arith) (omega arith)
 
       -- a Free entry, cut to the limits
-      pub adds : {pages' : ℕ} (part : MemoryEntry) → Entry part ≡ meet (entry (get_or ss i 0) (get_or es i 0) 1) limits → (part.end - part.start) / p ≤ 2 ^ 52
+      pub adds : {pages' : ℕ} (part : MemoryEntry) → Some part ≡ meet (entry (get_or ss i 0) (get_or es i 0) 1) limits → (part.end - part.start) / p ≤ 2 ^ 52
           → pages' ≡ pages + (part.end - part.start) / p → Counting p limits ss es ks n pages' (i + 1)
-      adds part is h e = step ((part.end - part.start) / p) (takes (Entry part) is) h e
+      adds part is h e = step ((part.end - part.start) / p) (takes (Some part) is) h e
 
 -- the map's own
-pub counted_all : {p : ℕ} (m : MemoryMap) (low high : Limit) {limits : MemoryEntry} → limits ≡ limit_of p low high → {pages i : ℕ}
+pub counted_all : {p : ℕ} (m : MemoryMap) (low high : Option ℕ) {limits : MemoryEntry} → limits ≡ limit_of p low high → {pages i : ℕ}
     → Counting p limits m.starts m.ends m.kinds m.size pages i → m.size ≤ i → pages ≡ free_pages p low high m
 unfolding free_pages
 counted_all m low high is inv h = rw (← is) (ends inv h)

@@ -1,12 +1,10 @@
 -- The share: document 01, "Page sheet": "The share is either none or a double; none when no page is Free, positive zero when pages are Free
 -- and none is usable. It is one division, rounded once".
-use Rattle.std.specs.Prelude.{ℕ, zero, suc, ◌-◌, ◌^◌, min, pos, Float}
+use Rattle.std.specs.Prelude.{ℕ, zero, suc, ◌-◌, ◌^◌, min, pos, Float, Option, Some, None}
 use Rattle.std.specs.Float.{Format, binary64}
 use Rattle.std.specs.Float.Ieee.{div, of_int, to_bits}
 use Rattle.sheet.specs.declared.Share.{Share}
 use Rattle.sheet.specs.declared.Share.TheVariants.{NoFree, Of}
-use Rattle.sheet.specs.declared.ShareBits.{ShareBits}
-use Rattle.sheet.specs.declared.ShareBits.TheVariants.{NoBits, Bits}
 
 -- usable / free: each count as a float, and one division
 unfoldable pub quotient : Format → ℕ → ℕ → Float
@@ -23,6 +21,6 @@ share_of zero usable = NoFree
 share_of (suc free) usable = Of (quotient binary64 (counted usable) (counted (suc free)))
 
 -- the share's 64 bits, as the report prints them
-abbrev pub bits_of : Share → ShareBits
-bits_of NoFree = NoBits
-bits_of (Of x) = Bits (to_bits binary64 x)
+abbrev pub bits_of : Share → Option ℕ
+bits_of NoFree = None
+bits_of (Of x) = Some (to_bits binary64 x)

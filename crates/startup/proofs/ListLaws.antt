@@ -1,4 +1,7 @@
 -- What the list's call says of its run: 1 where a kind is unknown; else the run is done, or is refused, as the call is. Assumes nothing.
+use Rattle.memory.specs.declared.MapRefusal.TheVariants.{UnknownKind, MapFull}
+use Rattle.memory.specs.declared.MapRefusal.{MapRefusal}
+use Rattle.std.specs.Prelude.{Result, Ok, Err}
 use mathlib.Core.Path.{◌≡◌, refl, ap, sym, ◌∙◌}
 use mathlib.Core.Bool.{Bool, true, false}
 use mathlib.Core.List.{List, [], ◌∷◌, ◌++◌}
@@ -6,10 +9,8 @@ use mathlib.Core.Logic.{⊎_elim}
 use Prim.Native.Nat.{ℕ}
 use native.Mathlib.Omega.{arith}
 use Rattle.words.proofs.BytesLaws.{never}
-use Rattle.entry.specs.Claim.{Claim}
+use Rattle.entry.specs.declared.Claim.{Claim}
 use Rattle.memory.specs.declared.MemoryMap.{MemoryMap}
-use Rattle.memory.specs.declared.Answer.{Answer}
-use Rattle.memory.specs.declared.Answer.TheVariants.{Done, UnknownKind, MapFull}
 use Rattle.memory.specs.declared.Registered.{Registered}
 use Rattle.memory.specs.Map.{answer_number, registered}
 use Rattle.memory.specs.Run.{is_done, registered_all}
@@ -29,10 +30,10 @@ run_refused p m (c ∷ cs) ds e =
     (λ n s. run_stops p m c (cs ++ ds) s ∙ sym (run_stops p m c cs s))
 
 -- the answer whose number is 1
-is_unknown : (a : Answer) → answer_number a ≡ 1 → a ≡ UnknownKind
-is_unknown Done e = absurd (omega arith)
-is_unknown UnknownKind e = refl
-is_unknown MapFull e = absurd (omega arith)
+is_unknown : (a : Result Unit MapRefusal) → answer_number a ≡ 1 → a ≡ (Err UnknownKind)
+is_unknown (Ok tt) e = absurd (omega arith)
+is_unknown (Err UnknownKind) e = refl
+is_unknown (Err MapFull) e = absurd (omega arith)
 
 -- x is what the list's call gave
 module _ (p : ℕ) (m : MemoryMap) (l : List ℕ) (x : Registered) (is : x ≡ listed p m l) where
@@ -52,7 +53,7 @@ module _ (p : ℕ) (m : MemoryMap) (l : List ℕ) (x : Registered) (is : x ≡ l
       go true e = refl
       go false e = absurd (f (rw (is, listed_unknown p m l e)))
 
-  pub list_runs : x.answer ≡ Done → x ≡ registered_all p m (claims l)
+  pub list_runs : x.answer ≡ (Ok tt) → x ≡ registered_all p m (claims l)
   list_runs d = is ∙ list_done p m l (rw is at d)
 
   pub list_refused : all_known l ≡ true → is_done x.answer ≡ false → is_done (registered_all p m (claims l)).answer ≡ false

@@ -1,13 +1,13 @@
 -- The five pairs, registered one after the other, are the run of their claims. For every page size p. Assumes nothing.
+use Rattle.std.specs.Prelude.{Ok}
 use mathlib.Core.Path.{◌≡◌, refl, ap, sym, ◌∙◌}
 use mathlib.Core.Bool.{true, false, cond}
 use mathlib.Core.List.{List, [], ◌∷◌}
 use Prim.Native.Nat.{ℕ}
 use Rattle.page.specs.Round.{Page}
 use Rattle.entry.specs.declared.BootloaderMemoryKind.TheVariants.{Kernel, IdentityMap}
-use Rattle.entry.specs.Claim.{Claim}
+use Rattle.entry.specs.declared.Claim.{Claim}
 use Rattle.memory.specs.declared.MemoryMap.{MemoryMap}
-use Rattle.memory.specs.declared.Answer.TheVariants.{Done}
 use Rattle.memory.specs.declared.Registered.{Registered}
 use Rattle.memory.specs.Map.{answered, registered}
 use Rattle.memory.specs.Made.{Made}
@@ -67,7 +67,7 @@ on_end p r =
 
 -- what the five calls leave, each going on from the one before
 module _ (p : ℕ) (m : MemoryMap) (o : Order) (a b c d e : Registered)
-    (first : a ≡ and_then p (answered m Done) (pair_claim Kernel o.kernel))
+    (first : a ≡ and_then p (answered m (Ok tt)) (pair_claim Kernel o.kernel))
     (second : b ≡ and_then p a (pair_claim IdentityMap o.env))
     (third : c ≡ and_then p b (pair_claim IdentityMap o.hwdesc))
     (fourth : d ≡ and_then p c (pair_claim IdentityMap o.bootstrap))
@@ -76,8 +76,8 @@ module _ (p : ℕ) (m : MemoryMap) (o : Order) (a b c d e : Registered)
   unfolding pair_claims
   five_pairs =
       sym
-      (sym (on_done_lem p (answered m Done) (pair_claims o) refl)
-      ∙ on_next p (answered m Done) a _ _ first
+      (sym (on_done_lem p (answered m (Ok tt)) (pair_claims o) refl)
+      ∙ on_next p (answered m (Ok tt)) a _ _ first
       ∙ on_next p a b _ _ second
       ∙ on_next p b c _ _ third
       ∙ on_next p c d _ _ fourth

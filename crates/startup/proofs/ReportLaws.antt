@@ -1,5 +1,9 @@
 -- The report and the slots, as the code ends: by what reading the order file said, by the verdict on its sources, and by what the build
 -- answered. Assumes nothing.
+use Rattle.order.specs.declared.OrderFault.TheVariants.{BadOrder as NoOrder}
+use Rattle.areas.specs.declared.AreasRefusal.TheVariants.{TooManyAreas as BuildFull}
+use Rattle.areas.specs.declared.AreasRefusal.{AreasRefusal}
+use Rattle.std.specs.Prelude.{Option, ℕ, Result, Ok, Err}
 use mathlib.Core.Path.{◌≡◌, refl, ap, sym, ◌∙◌}
 use mathlib.Core.Bool.{Bool, true, false, cond}
 use mathlib.Core.List.{List, ◌++◌}
@@ -10,21 +14,15 @@ use Rattle.words.proofs.BytesLaws.{never}
 use Rattle.page.specs.Round.{Page}
 use Rattle.memory.specs.declared.MemoryMap.{MemoryMap}
 use Rattle.memory.specs.Made.{Made}
-use Rattle.areas.specs.declared.Limit.{Limit}
-use Rattle.areas.specs.declared.Built.{Built}
-use Rattle.areas.specs.declared.Built.TheVariants.{Done as BuildDone, TooManyAreas as BuildFull}
 use Rattle.areas.specs.Interval.{Interval}
 use Rattle.areas.specs.Areas.{areas_of}
 use Rattle.areas.specs.Table.{flat, fits, answer_of, table_of, Builds}
 use Rattle.sheet.specs.declared.PageSheet.{PageSheet}
 use Rattle.sheet.specs.Sheet.{free_pages, usable_in, slot_pages, slots_to, sheet_of, map_sheet}
 use Rattle.order.specs.declared.Order.{Order}
-use Rattle.order.specs.declared.OrderRead.TheVariants.{Layout, BadOrder as NoOrder}
 use Rattle.order.specs.Layout.{order_of}
 use Rattle.startup.specs.declared.Refusal.{Refusal}
 use Rattle.startup.specs.declared.Refusal.TheVariants.{BadOrder, TooManyAreas}
-use Rattle.startup.specs.declared.Verdict.{Verdict}
-use Rattle.startup.specs.declared.Verdict.TheVariants.{Accepted, Rejected}
 use Rattle.startup.specs.declared.Sources.{Sources}
 use Rattle.startup.specs.declared.Report.{Report}
 use Rattle.startup.specs.declared.Report.TheVariants.{Done, Refused}
@@ -35,41 +33,41 @@ use Rattle.startup.proofs.SheetLaws.{usable_fits, table_usable}
 
 -- ── What a build answers ──
 -- so many areas, and there is room for them; or there is not
-data BuildWay (areas : List Interval) (l : List ℕ) : Built → Type 0 where
-  room : fits areas l ≡ true → BuildWay areas l (BuildDone (length areas))
-  none : fits areas l ≡ false → BuildWay areas l BuildFull
+data BuildWay (areas : List Interval) (l : List ℕ) : Result ℕ AreasRefusal → Type 0 where
+  room : fits areas l ≡ true → BuildWay areas l (Ok (length areas))
+  none : fits areas l ≡ false → BuildWay areas l (Err BuildFull)
 
 build_way : (areas : List Interval) (l : List ℕ) → BuildWay areas l (answer_of areas l)
 unfolding answer_of
 build_way areas l = go (fits areas l) refl
   where
-    go : (t : Bool) → fits areas l ≡ t → BuildWay areas l (cond t (BuildDone (length areas)) BuildFull)
+    go : (t : Bool) → fits areas l ≡ t → BuildWay areas l (cond t (Ok (length areas)) (Err BuildFull))
     go true e = room e
     go false e = none e
 
-built_full : (areas : List Interval) (l : List ℕ) → answer_of areas l ≡ BuildFull → fits areas l ≡ false
+built_full : (areas : List Interval) (l : List ℕ) → answer_of areas l ≡ Err BuildFull → fits areas l ≡ false
 built_full areas l e = go (answer_of areas l) (build_way areas l) e
   where
-    go : (b : Built) → BuildWay areas l b → b ≡ BuildFull → fits areas l ≡ false
+    go : (b : Result ℕ AreasRefusal) → BuildWay areas l b → b ≡ Err BuildFull → fits areas l ≡ false
     go b (room f) i = never (cc)
     go b (none f) i = f
 
-built_done : (areas : List Interval) (l : List ℕ) (n : ℕ) → answer_of areas l ≡ BuildDone n → (fits areas l ≡ true) × (n ≡ length areas)
+built_done : (areas : List Interval) (l : List ℕ) (n : ℕ) → answer_of areas l ≡ Ok n → (fits areas l ≡ true) × (n ≡ length areas)
 built_done areas l n e = go (answer_of areas l) (build_way areas l) e
   where
-    go : (b : Built) → BuildWay areas l b → b ≡ BuildDone n → (fits areas l ≡ true) × (n ≡ length areas)
+    go : (b : Result ℕ AreasRefusal) → BuildWay areas l b → b ≡ Ok n → (fits areas l ≡ true) × (n ≡ length areas)
     go b (room f) i = (f, cc)
     go b (none f) i = never (cc)
 
 -- ── The end: r is what the build answered, and l' the slots then ──
-module _ (p : ℕ) (m : MemoryMap) (low high : Limit) (l l' : List ℕ) (r : Built) (builds : Builds p m low high l l' r) where
-  pub finish_full : r ≡ BuildFull → Finishes p m low high l l' (Refused TooManyAreas)
+module _ (p : ℕ) (m : MemoryMap) (low high : Option ℕ) (l l' : List ℕ) (r : Result ℕ AreasRefusal) (builds : Builds p m low high l l' r) where
+  pub finish_full : r ≡ Err BuildFull → Finishes p m low high l l' (Refused TooManyAreas)
   unfolding finished
   finish_full e =
       let f = built_full (areas_of p low high m) l (sym builds.answer ∙ e) in
       record { report = rw f; slots = builds.table }
 
-  pub finish_done : Page p → Made p m → (n : ℕ) → r ≡ BuildDone n → (free usable : ℕ) (sheet : PageSheet)
+  pub finish_done : Page p → Made p m → (n : ℕ) → r ≡ Ok n → (free usable : ℕ) (sheet : PageSheet)
       → free ≡ free_pages p low high m → usable ≡ slot_pages p l' (slots_to l' n) 0 → sheet ≡ sheet_of free usable
       → Finishes p m low high l l' (Done n sheet)
   unfolding finished map_sheet table_of
@@ -88,32 +86,32 @@ module _ (p : ℕ) (s : List ℕ) (o : Order) (x : Sources) (is : x ≡ sources_
   unfolding sources_of
   verdict_is = ap (λ (y : Sources). y.verdict) is ∙ go (verdict_of p s o)
     where
-      go : (v : Verdict) → (judged_sources (run_of p s o).map v).verdict ≡ v
-      go Accepted = refl
-      go (Rejected f) = refl
+      go : (v : Result Unit Refusal) → (judged_sources (run_of p s o).map v).verdict ≡ v
+      go (Ok tt) = refl
+      go (Err f) = refl
 
-  pub map_is : x.verdict ≡ Accepted → x.map ≡ (run_of p s o).map
+  pub map_is : x.verdict ≡ Ok tt → x.map ≡ (run_of p s o).map
   unfolding sources_of
   map_is e =
       ap (λ (y : Sources). y.map) is
-      ∙ ap (λ (v : Verdict). (judged_sources (run_of p s o).map v).map) (sym verdict_is ∙ e)
+      ∙ ap (λ (v : Result Unit Refusal). (judged_sources (run_of p s o).map v).map) (sym verdict_is ∙ e)
 
   pub map_made : Page p → Made p x.map
   map_made g = rw is (sources_made p g s o)
 
-  module _ (l : List ℕ) (read : Layout o ≡ order_of s) where
-    pub reports_refused : (f : Refusal) → x.verdict ≡ Rejected f → Reports p s l l (Refused f)
+  module _ (l : List ℕ) (read : Ok o ≡ order_of s) where
+    pub reports_refused : (f : Refusal) → x.verdict ≡ Err f → Reports p s l l (Refused f)
     unfolding report_of slots_after
     reports_refused f e =
-        let v : verdict_of p s o ≡ Rejected f = sym verdict_is ∙ e in
+        let v : verdict_of p s o ≡ Err f = sym verdict_is ∙ e in
         record { report = rw (← read, v); slots = rw (← read, v) }
 
-    pub reports_finished : x.verdict ≡ Accepted → (l' : List ℕ) (r : Report) → Finishes p x.map o.low o.high l l' r → Reports p s l l' r
+    pub reports_finished : x.verdict ≡ Ok tt → (l' : List ℕ) (r : Report) → Finishes p x.map o.low o.high l l' r → Reports p s l l' r
     unfolding report_of slots_after
     reports_finished e l' r h =
-        let v : verdict_of p s o ≡ Accepted = sym verdict_is ∙ e in
+        let v : verdict_of p s o ≡ (Ok tt) = sym verdict_is ∙ e in
         record { report = rw (← read, v, ← map_is e) h.report; slots = rw (← read, v, ← map_is e) h.slots }
 
-pub reports_no_order : (p : ℕ) (s l : List ℕ) → NoOrder ≡ order_of s → Reports p s l l (Refused BadOrder)
+pub reports_no_order : (p : ℕ) (s l : List ℕ) → (Err NoOrder) ≡ order_of s → Reports p s l l (Refused BadOrder)
 unfolding report_of slots_after
 reports_no_order p s l e = record { report = rw (← e); slots = rw (← e) }

@@ -1,4 +1,5 @@
 -- The usable pages of a map's areas, read from the finished table. Assumes nothing.
+use Rattle.std.specs.Prelude.{Option, ℕ}
 use mathlib.Core.Path.{◌≡◌}
 use mathlib.Core.List.{List, [], ◌∷◌, ◌++◌}
 use Prim.Native.Nat.{ℕ, suc, ◌+◌, ◌-◌, ◌/◌, ◌^◌, ◌≤◌, ◌<◌}
@@ -9,7 +10,6 @@ use lib.Seq.{drop_at}
 use Rattle.page.specs.Round.{top, Page}
 use Rattle.memory.specs.declared.MemoryMap.{MemoryMap}
 use Rattle.memory.specs.Made.{Made}
-use Rattle.areas.specs.declared.Limit.{Limit}
 use Rattle.areas.specs.Interval.{Interval, Above}
 use Rattle.areas.specs.Areas.{areas_of}
 use Rattle.areas.specs.Table.{flat}
@@ -33,7 +33,7 @@ above_few p a (r ∷ l) h w =
     omega arith
 
 -- so the cap of `usable_pages` is never met
-pub usable_fits : (p : ℕ) (m : MemoryMap) (low high : Limit) → Page p → Made p m → usable_in p (areas_of p low high m) < 2 ^ 64
+pub usable_fits : (p : ℕ) (m : MemoryMap) (low high : Option ℕ) → Page p → Made p m → usable_in p (areas_of p low high m) < 2 ^ 64
 unfolding top
 usable_fits p m low high g made =
     let few = above_few p 0 (areas_of p low high m) (areas_of_ascends made low high) (areas_of_pages made low high g) in

@@ -1,5 +1,6 @@
 -- The sources in their order, as the code goes through them: each way out gives what the run of all registrations, judged in the order of
 -- document 01's numbers, gives. Assumes nothing.
+use Rattle.std.specs.Prelude.{Result, Ok, Err}
 use mathlib.Core.Path.{◌≡◌, refl, ap, sym, ◌∙◌}
 use mathlib.Core.Bool.{Bool, true, false}
 use mathlib.Core.List.{List, ◌++◌}
@@ -7,7 +8,6 @@ use Prim.Native.Nat.{ℕ}
 use Rattle.words.proofs.BytesLaws.{never}
 use Rattle.page.specs.Round.{Page}
 use Rattle.memory.specs.declared.MemoryMap.{MemoryMap}
-use Rattle.memory.specs.declared.Answer.TheVariants.{Done}
 use Rattle.memory.specs.declared.Registered.{Registered}
 use Rattle.memory.specs.Map.{blank, answer_number}
 use Rattle.memory.specs.Made.{Made}
@@ -23,15 +23,13 @@ use Rattle.dtb.proofs.CallLaws.{tree_made}
 use Rattle.order.specs.declared.Order.{Order}
 use Rattle.startup.specs.declared.Refusal.{Refusal}
 use Rattle.startup.specs.declared.Refusal.TheVariants.{UnknownKind, MapFull}
-use Rattle.startup.specs.declared.Verdict.{Verdict}
-use Rattle.startup.specs.declared.Verdict.TheVariants.{Accepted, Rejected}
 use Rattle.startup.specs.Sources.{list_in, tree_in, tree_claims, pair_claims, registrations}
 use Rattle.startup.specs.Verdict.{list_verdict, tree_verdict, map_verdict, run_of, verdict_of, sources, rejection, judged_sources, sources_of, tree_fault, ended_sources}
 use Rattle.startup.proofs.ListLaws.{run_refused, list_unknown, list_known, list_runs, list_refused}
 use Rattle.startup.proofs.TreeLaws.{TreeWay, faulty, full, taken, tree_way}
 
 -- ── How a run ends ──
-pub ended_done : (r : Registered) → is_done r.answer ≡ true → sources r.map Accepted ≡ ended_sources r
+pub ended_done : (r : Registered) → is_done r.answer ≡ true → sources r.map (Ok tt) ≡ ended_sources r
 unfolding ended_sources map_verdict
 ended_done r e = rw e
 
@@ -46,15 +44,15 @@ module _ (p : ℕ) (s : List ℕ) (o : Order) where
   by_list k = rw k
 
   module _ (k : all_known (list_in s o) ≡ true) where
-    by_tree : (f : Refusal) → tree_verdict (tree_in s o) o.arm ≡ Rejected f → rejection f ≡ sources_of p s o
+    by_tree : (f : Refusal) → tree_verdict (tree_in s o) o.arm ≡ Err f → rejection f ≡ sources_of p s o
     unfolding sources_of verdict_of list_verdict
     by_tree f e = rw (k, e)
 
-    by_run : tree_verdict (tree_in s o) o.arm ≡ Accepted → ended_sources (run_of p s o) ≡ sources_of p s o
+    by_run : tree_verdict (tree_in s o) o.arm ≡ Ok tt → ended_sources (run_of p s o) ≡ sources_of p s o
     unfolding sources_of verdict_of list_verdict ended_sources
     by_run e = rw (k, e)
 
-    by_full : tree_verdict (tree_in s o) o.arm ≡ Accepted → is_done (run_of p s o).answer ≡ false → rejection MapFull ≡ sources_of p s o
+    by_full : tree_verdict (tree_in s o) o.arm ≡ Ok tt → is_done (run_of p s o).answer ≡ false → rejection MapFull ≡ sources_of p s o
     by_full e n = ended_refused (run_of p s o) n ∙ by_run e
 
   -- ── The run of all registrations ──
@@ -68,7 +66,7 @@ module _ (p : ℕ) (s : List ℕ) (o : Order) where
   unfolding registrations
   list_stops e = rw (run_refused p blank (claims (list_in s o)) (tree_claims (tree_in s o) o.arm ++ pair_claims o) e) e
 
-  module _ (d : list_run.answer ≡ Done) where
+  module _ (d : list_run.answer ≡ Ok tt) where
     list_on : run_of p s o ≡ registered_all p list_run.map (tree_claims (tree_in s o) o.arm ++ pair_claims o)
     unfolding registrations
     list_on = run_append p blank (claims (list_in s o)) (tree_claims (tree_in s o) o.arm ++ pair_claims o) d
@@ -76,7 +74,7 @@ module _ (p : ℕ) (s : List ℕ) (o : Order) where
     tree_stops : is_done tree_run.answer ≡ false → is_done (run_of p s o).answer ≡ false
     tree_stops e = rw (list_on, run_refused p list_run.map (tree_claims (tree_in s o) o.arm) (pair_claims o) e) e
 
-    tree_on : tree_run.answer ≡ Done → run_of p s o ≡ registered_all p tree_run.map (pair_claims o)
+    tree_on : tree_run.answer ≡ Ok tt → run_of p s o ≡ registered_all p tree_run.map (pair_claims o)
     tree_on e = list_on ∙ run_append p list_run.map (tree_claims (tree_in s o) o.arm) (pair_claims o) e
 
   -- ── The calls: m is the empty map, l and t are the list and the tree, x is what the list's call gave, and y what the tree's gave ──
@@ -113,7 +111,7 @@ module _ (p : ℕ) (s : List ℕ) (o : Order) where
           tree_stops (ap (λ (q : Registered). q.answer) (sym r) ∙ d) (rw r at e))
           (λ n q. over q)
 
-      pub faulty_sources : (f : Refusal) → tree_fault y.answer ≡ Rejected f → rejection f ≡ sources_of p s o
+      pub faulty_sources : (f : Refusal) → tree_fault y.answer ≡ Err f → rejection f ≡ sources_of p s o
       faulty_sources f e = go goes
         where
           go : TreeWay (tree_verdict (tree_in s o) o.arm) ran y → rejection f ≡ sources_of p s o
@@ -121,7 +119,7 @@ module _ (p : ℕ) (s : List ℕ) (o : Order) where
           go (full v i n) = let same : f ≡ MapFull = cc in rw same (by_full is_known_lem v (tree_over n))
           go (taken v i d w) = never (cc)
 
-      module _ (fine : tree_fault y.answer ≡ Accepted) where
+      module _ (fine : tree_fault y.answer ≡ Ok tt) where
         pub full_sources : is_done x.answer ≡ false → rejection MapFull ≡ sources_of p s o
         full_sources n = go goes
           where
@@ -130,7 +128,7 @@ module _ (p : ℕ) (s : List ℕ) (o : Order) where
             go (full v i q) = never (cc)
             go (taken v i d w) = by_full is_known_lem v (over n)
 
-        pub all_sources : x.answer ≡ Done → ended_sources (registered_all p y.map (pair_claims o)) ≡ sources_of p s o
+        pub all_sources : x.answer ≡ Ok tt → ended_sources (registered_all p y.map (pair_claims o)) ≡ sources_of p s o
         all_sources d = go goes
           where
             r : x ≡ list_run
@@ -160,6 +158,6 @@ module _ (p : ℕ) (g : Page p) where
   unfolding sources_of
   sources_made s o = go (verdict_of p s o)
     where
-      go : (v : Verdict) → Made p (judged_sources (run_of p s o).map v).map
-      go Accepted = run_made s o
-      go (Rejected r) = blank_made p
+      go : (v : Result Unit Refusal) → Made p (judged_sources (run_of p s o).map v).map
+      go (Ok tt) = run_made s o
+      go (Err r) = blank_made p

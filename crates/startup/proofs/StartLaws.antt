@@ -1,4 +1,7 @@
 -- The map beside the report, as the code ends; and it is one that every call takes. Assumes nothing.
+use Rattle.order.specs.declared.OrderFault.TheVariants.{BadOrder as NoOrder}
+use Rattle.order.specs.declared.OrderFault.{OrderFault}
+use Rattle.std.specs.Prelude.{Option, ℕ, Result, Ok, Err}
 use mathlib.Core.Path.{◌≡◌, refl}
 use mathlib.Core.List.{List}
 use Prim.Native.Nat.{ℕ}
@@ -6,14 +9,10 @@ use Rattle.page.specs.Round.{Page}
 use Rattle.memory.specs.declared.MemoryMap.{MemoryMap}
 use Rattle.memory.specs.Made.{Made}
 use Rattle.memory.proofs.MapLaws.{blank_made}
-use Rattle.areas.specs.declared.Limit.{Limit}
 use Rattle.sheet.specs.declared.PageSheet.{PageSheet}
 use Rattle.order.specs.declared.Order.{Order}
-use Rattle.order.specs.declared.OrderRead.{OrderRead}
-use Rattle.order.specs.declared.OrderRead.TheVariants.{Layout, BadOrder as NoOrder}
 use Rattle.order.specs.Layout.{order_of}
 use Rattle.startup.specs.declared.Refusal.{Refusal}
-use Rattle.startup.specs.declared.Verdict.TheVariants.{Accepted}
 use Rattle.startup.specs.declared.Sources.{Sources}
 use Rattle.startup.specs.declared.Report.{Report}
 use Rattle.startup.specs.declared.Report.TheVariants.{Done, Refused}
@@ -25,7 +24,7 @@ use Rattle.startup.proofs.SourceLaws.{run_made}
 use Rattle.startup.proofs.ReportLaws.{map_is, reports_finished}
 
 -- ── The end: r is what finishing the map m answered ──
-module _ (p : ℕ) (m : MemoryMap) (low high : Limit) (l l' : List ℕ) (r : Report) (h : Finishes p m low high l l' r) where
+module _ (p : ℕ) (m : MemoryMap) (low high : Option ℕ) (l l' : List ℕ) (r : Report) (h : Finishes p m low high l l' r) where
   pub start_refused : (f : Refusal) → r ≡ Refused f → (x : Start) → x ≡ not_started f → StartFinishes p m low high l l' x
   start_refused f e x i = rw i (record { finishes = rw e at h; map = refl })
 
@@ -39,7 +38,7 @@ module _ (p : ℕ) (s l : List ℕ) where
   starts_refused f h x i = rw i (record { reports = h; map = rw (← h.report) })
 
   -- x is what registering the sources of the order o gave
-  pub starts_finished : (o : Order) (x : Sources) → x ≡ sources_of p s o → Layout o ≡ order_of s → x.verdict ≡ Accepted
+  pub starts_finished : (o : Order) (x : Sources) → x ≡ sources_of p s o → Ok o ≡ order_of s → x.verdict ≡ Ok tt
       → (l' : List ℕ) (r : Start) → StartFinishes p x.map o.low o.high l l' r → Starts p s l l' r
   unfolding map_left
   starts_finished o x is read e l' r h =
@@ -51,9 +50,9 @@ module _ (p : ℕ) (s l : List ℕ) where
   unfolding map_left
   left_made g = go (report_of p s l)
     where
-      file : (o : OrderRead) → Made p (file_map p s o)
-      file NoOrder = blank_made p
-      file (Layout o) = run_made p g s o
+      file : (o : Result Order OrderFault) → Made p (file_map p s o)
+      file (Err NoOrder) = blank_made p
+      file (Ok o) = run_made p g s o
 
       go : (r : Report) → Made p (kept_map r (file_map p s (order_of s)))
       go (Done n sheet) = file (order_of s)

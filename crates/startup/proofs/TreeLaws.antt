@@ -1,11 +1,11 @@
 -- The tree's call, by what is wrong with the tree itself and, where nothing is, by the run of its claims. It holds for any map, so also for
 -- the one that a list handed back which overflowed. Assumes nothing.
+use Rattle.std.specs.Prelude.{Result, Ok, Err}
 use mathlib.Core.Path.{◌≡◌, refl, ap, sym}
 use mathlib.Core.Bool.{Bool, false}
 use mathlib.Core.List.{List}
 use Prim.Native.Nat.{ℕ}
 use Rattle.memory.specs.declared.MemoryMap.{MemoryMap}
-use Rattle.memory.specs.declared.Answer.TheVariants.{Done}
 use Rattle.memory.specs.declared.Registered.{Registered}
 use Rattle.memory.specs.Run.{is_done, registered_all}
 use Rattle.runs.proofs.Runs.{done_or, run_nil}
@@ -22,21 +22,19 @@ use Rattle.dtb.specs.Call.{settled_tree, judged_call, opened_call, tree_register
 use Rattle.dtb.proofs.CallLaws.{settled_done, settled_refused}
 use Rattle.startup.specs.declared.Refusal.{Refusal}
 use Rattle.startup.specs.declared.Refusal.TheVariants.{MapFull}
-use Rattle.startup.specs.declared.Verdict.{Verdict}
-use Rattle.startup.specs.declared.Verdict.TheVariants.{Accepted, Rejected}
 use Rattle.startup.specs.Sources.{claims_by, tree_claims}
 use Rattle.startup.specs.Verdict.{judged_verdict, opened_verdict, tree_verdict, tree_fault}
 
 -- the three ways of the call y, where v is the verdict on the tree alone and r the run of its claims
-pub data TreeWay (v : Verdict) (r : Registered) (y : TreeRegistered) : Type 0 where
-  faulty : (f : Refusal) → v ≡ Rejected f → tree_fault y.answer ≡ Rejected f → TreeWay v r y
-  full : v ≡ Accepted → tree_fault y.answer ≡ Rejected MapFull → is_done r.answer ≡ false → TreeWay v r y
-  taken : v ≡ Accepted → tree_fault y.answer ≡ Accepted → r.answer ≡ Done → y.map ≡ r.map → TreeWay v r y
+pub data TreeWay (v : Result Unit Refusal) (r : Registered) (y : TreeRegistered) : Type 0 where
+  faulty : (f : Refusal) → v ≡ Err f → tree_fault y.answer ≡ Err f → TreeWay v r y
+  full : v ≡ Ok tt → tree_fault y.answer ≡ Err MapFull → is_done r.answer ≡ false → TreeWay v r y
+  taken : v ≡ Ok tt → tree_fault y.answer ≡ Ok tt → r.answer ≡ Ok tt → y.map ≡ r.map → TreeWay v r y
 
 module _ (m : MemoryMap) (r : Registered) where
-  by_run : TreeWay Accepted r (settled_tree m r)
+  by_run : TreeWay (Ok tt) r (settled_tree m r)
   by_run =
-      done_or r.answer (TreeWay Accepted r (settled_tree m r))
+      done_or r.answer (TreeWay (Ok tt) r (settled_tree m r))
       (λ d.
       let e = settled_done m r (ap is_done d) in
       taken refl (ap (λ (y : TreeRegistered). tree_fault y.answer) e) d (ap (λ (y : TreeRegistered). y.map) e))

@@ -1,19 +1,18 @@
 -- The whole build, as one definition over the order file's bytes and the lent slots: document 01, "Order file and report" and
 -- "Numbers a caller gets back".
-use Rattle.std.specs.Prelude.{◌≡◌, ℕ, cond, List, length}
+use Rattle.order.specs.declared.OrderFault.TheVariants.{BadOrder as NoOrder}
+use Rattle.order.specs.declared.OrderFault.{OrderFault}
+use Rattle.order.specs.declared.Order.{Order}
+use Rattle.startup.specs.declared.Refusal.{Refusal}
+use Rattle.std.specs.Prelude.{◌≡◌, ℕ, cond, List, length, Option, Result, Ok, Err}
 use Rattle.memory.specs.declared.MemoryMap.{MemoryMap}
-use Rattle.areas.specs.declared.Limit.{Limit}
 use Rattle.areas.specs.Interval.{Interval}
 use Rattle.areas.specs.Areas.{areas_of}
 use Rattle.areas.specs.Table.{fits, table_of}
 use Rattle.sheet.specs.declared.PageSheet.{PageSheet}
 use Rattle.sheet.specs.Sheet.{map_sheet}
-use Rattle.order.specs.declared.OrderRead.{OrderRead}
-use Rattle.order.specs.declared.OrderRead.TheVariants.{Layout, BadOrder as NoOrder}
 use Rattle.order.specs.Layout.{order_of}
 use Rattle.startup.specs.declared.Refusal.TheVariants.{BadOrder, TooManyAreas}
-use Rattle.startup.specs.declared.Verdict.{Verdict}
-use Rattle.startup.specs.declared.Verdict.TheVariants.{Accepted, Rejected}
 use Rattle.startup.specs.declared.Report.{Report}
 use Rattle.startup.specs.declared.Report.TheVariants.{Done, Refused}
 use Rattle.startup.specs.Verdict.{refusal_number, run_of, verdict_of}
@@ -28,29 +27,29 @@ unfoldable pub finished : List Interval → PageSheet → List ℕ → Report
 finished areas sheet l = cond (fits areas l) (Done (length areas) sheet) (Refused TooManyAreas)
 
 -- of a map under some limits
-abbrev pub map_report : ℕ → MemoryMap → Limit → Limit → List ℕ → Report
+abbrev pub map_report : ℕ → MemoryMap → Option ℕ → Option ℕ → List ℕ → Report
 map_report p m low high l = finished (areas_of p low high m) (map_sheet p low high m) l
 
-abbrev pub map_slots : ℕ → MemoryMap → Limit → Limit → List ℕ → List ℕ
+abbrev pub map_slots : ℕ → MemoryMap → Option ℕ → Option ℕ → List ℕ → List ℕ
 map_slots p m low high l = table_of (areas_of p low high m) l
 
 -- what the sources were refused for comes first, and "writes nothing"
-abbrev pub verdict_report : Verdict → Report → Report
-verdict_report (Rejected r) done = Refused r
-verdict_report Accepted done = done
+abbrev pub verdict_report : Result Unit Refusal → Report → Report
+verdict_report (Err r) done = Refused r
+verdict_report (Ok tt) done = done
 
-abbrev pub verdict_slots : Verdict → List ℕ → List ℕ → List ℕ
-verdict_slots (Rejected r) l after = l
-verdict_slots Accepted l after = after
+abbrev pub verdict_slots : Result Unit Refusal → List ℕ → List ℕ → List ℕ
+verdict_slots (Err r) l after = l
+verdict_slots (Ok tt) l after = after
 
 -- 9 comes before all
-abbrev pub read_report : ℕ → List ℕ → List ℕ → OrderRead → Report
-read_report p s l NoOrder = Refused BadOrder
-read_report p s l (Layout o) = verdict_report (verdict_of p s o) (map_report p (run_of p s o).map o.low o.high l)
+abbrev pub read_report : ℕ → List ℕ → List ℕ → Result Order OrderFault → Report
+read_report p s l (Err NoOrder) = Refused BadOrder
+read_report p s l (Ok o) = verdict_report (verdict_of p s o) (map_report p (run_of p s o).map o.low o.high l)
 
-abbrev pub read_slots : ℕ → List ℕ → List ℕ → OrderRead → List ℕ
-read_slots p s l NoOrder = l
-read_slots p s l (Layout o) = verdict_slots (verdict_of p s o) l (map_slots p (run_of p s o).map o.low o.high l)
+abbrev pub read_slots : ℕ → List ℕ → List ℕ → Result Order OrderFault → List ℕ
+read_slots p s l (Err NoOrder) = l
+read_slots p s l (Ok o) = verdict_slots (verdict_of p s o) l (map_slots p (run_of p s o).map o.low o.high l)
 
 -- THE REPORT of an order file s with lent slots l, and the slots afterwards
 unfoldable pub report_of : ℕ → List ℕ → List ℕ → Report
@@ -64,6 +63,6 @@ pub record Reports (p : ℕ) (s l l' : List ℕ) (r : Report) : Type 0 where
   pub slots : l' ≡ slots_after p s l
 
 -- the step that ends it
-pub record Finishes (p : ℕ) (m : MemoryMap) (low high : Limit) (l l' : List ℕ) (r : Report) : Type 0 where
+pub record Finishes (p : ℕ) (m : MemoryMap) (low high : Option ℕ) (l l' : List ℕ) (r : Report) : Type 0 where
   pub report : r ≡ map_report p m low high l
   pub slots : l' ≡ map_slots p m low high l

@@ -6,7 +6,8 @@ use Rattle.cells.specs.declared.Region.{Region}
 use Rattle.entry.specs.declared.BootloaderMemoryKind.{BootloaderMemoryKind}
 use Rattle.entry.specs.declared.BootloaderMemoryKind.TheVariants.{Kernel, IdentityMap}
 use Rattle.entry.specs.Kind.{number_of}
-use Rattle.entry.specs.Claim.{Claim, claim}
+use Rattle.entry.specs.declared.Claim.{Claim}
+use Rattle.entry.specs.Claim.{claim}
 use Rattle.memory.specs.declared.Registered.{Registered}
 use Rattle.memory.specs.Map.{registered}
 use Rattle.memory.specs.Run.{is_done}

@@ -1,11 +1,11 @@
 -- The whole build with the map of its registrations, from which late claims go on: document 02, request L3, "Let a late claim .. enter the
 -- map and edit the table where it stands."
-use Rattle.std.specs.Prelude.{◌≡◌, ℕ, List}
+use Rattle.order.specs.declared.OrderFault.TheVariants.{BadOrder as NoOrder}
+use Rattle.order.specs.declared.OrderFault.{OrderFault}
+use Rattle.order.specs.declared.Order.{Order}
+use Rattle.std.specs.Prelude.{◌≡◌, ℕ, List, Option, Result, Ok, Err}
 use Rattle.memory.specs.declared.MemoryMap.{MemoryMap}
 use Rattle.memory.specs.Map.{blank}
-use Rattle.areas.specs.declared.Limit.{Limit}
-use Rattle.order.specs.declared.OrderRead.{OrderRead}
-use Rattle.order.specs.declared.OrderRead.TheVariants.{Layout, BadOrder as NoOrder}
 use Rattle.order.specs.Layout.{order_of}
 use Rattle.startup.specs.declared.Refusal.{Refusal}
 use Rattle.startup.specs.declared.Report.{Report}
@@ -20,9 +20,9 @@ kept_map (Done n sheet) m = m
 kept_map (Refused r) m = blank
 
 -- the map of all registrations
-abbrev pub file_map : ℕ → List ℕ → OrderRead → MemoryMap
-file_map p s NoOrder = blank
-file_map p s (Layout o) = (run_of p s o).map
+abbrev pub file_map : ℕ → List ℕ → Result Order OrderFault → MemoryMap
+file_map p s (Err NoOrder) = blank
+file_map p s (Ok o) = (run_of p s o).map
 
 -- THE MAP that the build of an order file s with lent slots l leaves
 unfoldable pub map_left : ℕ → List ℕ → List ℕ → MemoryMap
@@ -39,6 +39,6 @@ start m r = record { map = m; report = r }
 abbrev pub not_started : Refusal → Start
 not_started r = start blank (Refused r)
 
-pub record StartFinishes (p : ℕ) (m : MemoryMap) (low high : Limit) (l l' : List ℕ) (r : Start) : Type 0 where
+pub record StartFinishes (p : ℕ) (m : MemoryMap) (low high : Option ℕ) (l l' : List ℕ) (r : Start) : Type 0 where
   pub finishes : Finishes p m low high l l' r.report
   pub map : r.map ≡ kept_map r.report m

@@ -11,7 +11,7 @@ use Rattle.words.proofs.BytesLaws.{cond_elim}
 use Rattle.entry.specs.declared.BootloaderMemoryKind.{BootloaderMemoryKind}
 use Rattle.entry.specs.declared.BootloaderMemoryKind.TheVariants.{Reserved, Device}
 use Rattle.entry.specs.Kind.{number_of, IsKind}
-use Rattle.entry.specs.Claim.{Claim}
+use Rattle.entry.specs.declared.Claim.{Claim}
 use Rattle.cells.specs.declared.CellCount.{CellCount}
 use Rattle.cells.specs.declared.Region.{Region}
 use Rattle.cells.specs.declared.Range.{Range}

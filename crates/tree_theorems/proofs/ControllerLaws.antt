@@ -3,7 +3,7 @@ use mathlib.Core.Path.{◌≡◌, refl, ap₂}
 use mathlib.Core.Bool.{Bool, true, false, cond}
 use mathlib.Core.List.{List, [], ◌∷◌, ◌++◌}
 use Prim.Native.Nat.{ℕ}
-use Rattle.entry.specs.Claim.{Claim}
+use Rattle.entry.specs.declared.Claim.{Claim}
 use Rattle.cells.specs.declared.Region.{Region}
 use Rattle.cells.specs.Rows.{rows}
 use Rattle.fdt.specs.declared.Blocks.{Blocks}

@@ -1,4 +1,9 @@
 -- Each number of the tree's call is given exactly when document 01 says so, and no refusal changes the map. Assumes nothing.
+use Rattle.dtb.specs.declared.TreeRefusal.TheVariants.{BadHeader, OverLimit, BadStructure, UnreadableReg, UnreadableRanges, MapFull}
+use Rattle.dtb.specs.declared.TreeRefusal.{TreeRefusal}
+use Rattle.memory.specs.declared.MapRefusal.TheVariants.{UnknownKind, MapFull as RunFull}
+use Rattle.memory.specs.declared.MapRefusal.{MapRefusal}
+use Rattle.std.specs.Prelude.{Result, Ok, Err}
 use mathlib.Core.Path.{◌≡◌, refl, sym, ◌∙◌, ap, subst}
 use mathlib.Core.Logic.{◌↔◌, ◌⊎◌, inl, inr}
 use mathlib.Core.Bool.{Bool, cond}
@@ -11,10 +16,8 @@ use Rattle.numbers.specs.Number.{Names}
 use Rattle.numbers.proofs.Given.{given}
 use Rattle.words.proofs.BytesLaws.{never}
 use Rattle.page.specs.Round.{Page}
-use Rattle.entry.specs.Claim.{Claim}
+use Rattle.entry.specs.declared.Claim.{Claim}
 use Rattle.memory.specs.declared.MemoryMap.{MemoryMap}
-use Rattle.memory.specs.declared.Answer.{Answer}
-use Rattle.memory.specs.declared.Answer.TheVariants.{Done as RunDone, UnknownKind, MapFull as RunFull}
 use Rattle.memory.specs.declared.Registered.{Registered}
 use Rattle.memory.specs.Map.{answer_number}
 use Rattle.memory.specs.Made.{Made}
@@ -35,8 +38,6 @@ use Rattle.claims.specs.declared.Judged.{Judged}
 use Rattle.claims.specs.declared.Judged.TheVariants.{Sound, UnreadableReg as NoReg, UnreadableRanges as NoRanges}
 use Rattle.claims.specs.Claims.{claims_of}
 use Rattle.claims.specs.Judging.{judged_of}
-use Rattle.dtb.specs.declared.TreeAnswer.{TreeAnswer}
-use Rattle.dtb.specs.declared.TreeAnswer.TheVariants.{Done, BadHeader, OverLimit, BadStructure, UnreadableReg, UnreadableRanges, MapFull}
 use Rattle.dtb.specs.declared.TreeRegistered.{TreeRegistered}
 use Rattle.dtb.specs.Call.{tree_number, settled_tree, judged_call, opened_call, tree_registered}
 use Rattle.dtb.proofs.CallLaws.{settled_done, settled_refused, call_opened, call_judged}
@@ -45,31 +46,31 @@ use Rattle.tree_theorems.proofs.ClaimKinds.{claims_known}
 use Rattle.tree_theorems.proofs.Judging.{judged_7, judged_8, judged_0}
 
 -- what is left of an answer that is neither done nor 1
-full_left : (a : Answer) → (a ≡ RunDone → ⊥) → (a ≡ UnknownKind → ⊥) → a ≡ RunFull
-full_left RunDone f g = absurd (f refl)
-full_left UnknownKind f g = absurd (g refl)
-full_left RunFull f g = refl
+full_left : (a : Result Unit MapRefusal) → (a ≡ Ok tt → ⊥) → (a ≡ Err UnknownKind → ⊥) → a ≡ Err RunFull
+full_left (Ok tt) f g = absurd (f refl)
+full_left (Err UnknownKind) f g = absurd (g refl)
+full_left (Err RunFull) f g = refl
 
 -- the numbers name their cases
 tree_names : Names tree_number
 tree_names = record { back = refusal_of; named = each }
   where
-    refusal_of : ℕ → TreeAnswer
+    refusal_of : ℕ → Result Unit TreeRefusal
     refusal_of n =
-        cond (eqb n 4) BadHeader
-        (cond (eqb n 6) OverLimit
-        (cond (eqb n 5) BadStructure
-        (cond (eqb n 7) UnreadableReg
-        (cond (eqb n 8) UnreadableRanges MapFull))))
+        cond (eqb n 4) (Err BadHeader)
+        (cond (eqb n 6) (Err OverLimit)
+        (cond (eqb n 5) (Err BadStructure)
+        (cond (eqb n 7) (Err UnreadableReg)
+        (cond (eqb n 8) (Err UnreadableRanges) (Err MapFull)))))
 
-    each : (a : TreeAnswer) → (tree_number a ≡ 0) ⊎ (refusal_of (tree_number a) ≡ a)
-    each Done = inl refl
-    each BadHeader = inr refl
-    each OverLimit = inr refl
-    each BadStructure = inr refl
-    each UnreadableReg = inr refl
-    each UnreadableRanges = inr refl
-    each MapFull = inr refl
+    each : (a : Result Unit TreeRefusal) → (tree_number a ≡ 0) ⊎ (refusal_of (tree_number a) ≡ a)
+    each (Ok tt) = inl refl
+    each (Err BadHeader) = inr refl
+    each (Err OverLimit) = inr refl
+    each (Err BadStructure) = inr refl
+    each (Err UnreadableReg) = inr refl
+    each (Err UnreadableRanges) = inr refl
+    each (Err MapFull) = inr refl
 
 module _ (p : ℕ) (m : MemoryMap) (s : List ℕ) (arm : Bool) where
   abbrev tree : Nodes
@@ -88,14 +89,14 @@ module _ (p : ℕ) (m : MemoryMap) (s : List ℕ) (arm : Bool) where
   IsTree = opened_of s ≡ Tree (blocks_of s)
 
   -- what holds where this is the map and this the answer
-  abbrev Says : MemoryMap → TreeAnswer → Type 0
-  Says n Done = IsTree → (run.answer ≡ RunDone) × (n ≡ run.map)
-  Says n BadHeader = (n ≡ m) × (opened_of s ≡ NoHeader)
-  Says n OverLimit = (n ≡ m) × (opened_of s ≡ Over)
-  Says n BadStructure = (n ≡ m) × (opened_of s ≡ NoStructure)
-  Says n UnreadableReg = (n ≡ m) × (IsTree × (judged_of arm tree ≡ NoReg))
-  Says n UnreadableRanges = (n ≡ m) × (IsTree × (judged_of arm tree ≡ NoRanges))
-  Says n MapFull = (n ≡ m) × (IsTree × (judged_of arm tree ≡ Sound) × (run.answer ≡ RunDone → ⊥))
+  abbrev Says : MemoryMap → Result Unit TreeRefusal → Type 0
+  Says n (Ok tt) = IsTree → (run.answer ≡ Ok tt) × (n ≡ run.map)
+  Says n (Err BadHeader) = (n ≡ m) × (opened_of s ≡ NoHeader)
+  Says n (Err OverLimit) = (n ≡ m) × (opened_of s ≡ Over)
+  Says n (Err BadStructure) = (n ≡ m) × (opened_of s ≡ NoStructure)
+  Says n (Err UnreadableReg) = (n ≡ m) × (IsTree × (judged_of arm tree ≡ NoReg))
+  Says n (Err UnreadableRanges) = (n ≡ m) × (IsTree × (judged_of arm tree ≡ NoRanges))
+  Says n (Err MapFull) = (n ≡ m) × (IsTree × (judged_of arm tree ≡ Sound) × (run.answer ≡ Ok tt → ⊥))
 
   abbrev SaysOf : TreeRegistered → Type 0
   SaysOf r = Says r.map r.answer
@@ -120,7 +121,7 @@ module _ (p : ℕ) (m : MemoryMap) (s : List ℕ) (arm : Bool) where
   says : SaysOf call
   says = subst SaysOf (sym (call_opened p m s arm (opened_of s) refl)) (by_opening (opened_of s) refl)
 
-  says_of : (a : TreeAnswer) → call.answer ≡ a → Says call.map a
+  says_of : (a : Result Unit TreeRefusal) → call.answer ≡ a → Says call.map a
   says_of a e = subst (Says call.map) e says
 
   -- and the call, by what opening and judging say
@@ -130,27 +131,27 @@ module _ (p : ℕ) (m : MemoryMap) (s : List ℕ) (arm : Bool) where
   judged : IsTree → (j : Judged) → j ≡ judged_of arm tree → call ≡ judged_call m j run
   judged o j e = call_judged p m s arm (blocks_of s) j (sym o) e
 
-  abbrev answer : TreeRegistered → TreeAnswer
+  abbrev answer : TreeRegistered → Result Unit TreeRefusal
   answer r = r.answer
 
   -- by the answer's case, as opening and judging say
-  header_case : (call.answer ≡ BadHeader) ↔ HeaderBroken s
+  header_case : (call.answer ≡ Err BadHeader) ↔ HeaderBroken s
   header_case =
       let x = bad_header_exactly s in
-      (λ e. x.0 (says_of BadHeader e).1, λ h. ap answer (opened NoHeader (x.1 h)))
+      (λ e. x.0 (says_of (Err BadHeader) e).1, λ h. ap answer (opened NoHeader (x.1 h)))
 
-  over_case : (call.answer ≡ OverLimit) ↔ OverLimits s
+  over_case : (call.answer ≡ Err OverLimit) ↔ OverLimits s
   over_case =
       let x = over_exactly s in
-      (λ e. x.0 (says_of OverLimit e).1, λ h. ap answer (opened Over (x.1 h)))
+      (λ e. x.0 (says_of (Err OverLimit) e).1, λ h. ap answer (opened Over (x.1 h)))
 
-  structure_case : (call.answer ≡ BadStructure) ↔ StructureBroken s
+  structure_case : (call.answer ≡ Err BadStructure) ↔ StructureBroken s
   structure_case =
       let x = bad_structure_exactly s in
-      (λ e. x.0 (says_of BadStructure e).1, λ h. ap answer (opened NoStructure (x.1 h)))
+      (λ e. x.0 (says_of (Err BadStructure) e).1, λ h. ap answer (opened NoStructure (x.1 h)))
 
   -- a case that judging gives
-  by_case : (a : TreeAnswer) (j : Judged) {When : Type 0} → (Says call.map a → IsTree × (judged_of arm tree ≡ j)) → (judged_call m j run).answer ≡ a
+  by_case : (a : Result Unit TreeRefusal) (j : Judged) {When : Type 0} → (Says call.map a → IsTree × (judged_of arm tree ≡ j)) → (judged_call m j run).answer ≡ a
       → (judged_of arm tree ≡ j) ↔ When → (call.answer ≡ a) ↔ (Opens s × When)
   by_case a j f g w = (
     λ e. let x = f (says_of a e) in ((opened_exactly s).0 x.0, w.0 x.1),
@@ -158,10 +159,10 @@ module _ (p : ℕ) (m : MemoryMap) (s : List ℕ) (arm : Bool) where
   )
 
   full_case : Page p → Made p m
-      → (call.answer ≡ MapFull) ↔ (Opens s × ((BadReserved tree → ⊥) × (BadSoc arm tree → ⊥)) × Overflows p m claims)
+      → (call.answer ≡ Err MapFull) ↔ (Opens s × ((BadReserved tree → ⊥) × (BadSoc arm tree → ⊥)) × Overflows p m claims)
   full_case g h = (
     λ e.
-        let w = (says_of MapFull e).1 in
+        let w = (says_of (Err MapFull) e).1 in
         let f = full_left run.answer w.2 (run_known p m claims (claims_known arm _ tree)) in
         ((opened_exactly s).0 w.0, (judged_0 arm tree).0 w.1, (run_full p m claims g h).0 f),
     λ w.
@@ -171,25 +172,25 @@ module _ (p : ℕ) (m : MemoryMap) (s : List ℕ) (arm : Bool) where
 
   -- THE NUMBERS: "Given exactly when"
   pub number_4 : (tree_number (tree_registered p m s arm).answer ≡ 4) ↔ HeaderBroken s
-  number_4 = given tree_names BadHeader (λ z. omega arith) header_case
+  number_4 = given tree_names (Err BadHeader) (λ z. omega arith) header_case
 
   pub number_6 : (tree_number (tree_registered p m s arm).answer ≡ 6) ↔ OverLimits s
-  number_6 = given tree_names OverLimit (λ z. omega arith) over_case
+  number_6 = given tree_names (Err OverLimit) (λ z. omega arith) over_case
 
   pub number_5 : (tree_number (tree_registered p m s arm).answer ≡ 5) ↔ StructureBroken s
-  number_5 = given tree_names BadStructure (λ z. omega arith) structure_case
+  number_5 = given tree_names (Err BadStructure) (λ z. omega arith) structure_case
 
   pub number_7 : (tree_number (tree_registered p m s arm).answer ≡ 7) ↔ (Opens s × BadReserved tree)
-  number_7 = given tree_names UnreadableReg (λ z. omega arith) (by_case UnreadableReg NoReg (λ w. w.1) refl (judged_7 arm tree))
+  number_7 = given tree_names (Err UnreadableReg) (λ z. omega arith) (by_case (Err UnreadableReg) NoReg (λ w. w.1) refl (judged_7 arm tree))
 
   pub number_8 : (tree_number (tree_registered p m s arm).answer ≡ 8) ↔ (Opens s × ((BadReserved tree → ⊥) × BadSoc arm tree))
-  number_8 = given tree_names UnreadableRanges (λ z. omega arith) (by_case UnreadableRanges NoRanges (λ w. w.1) refl (judged_8 arm tree))
+  number_8 = given tree_names (Err UnreadableRanges) (λ z. omega arith) (by_case (Err UnreadableRanges) NoRanges (λ w. w.1) refl (judged_8 arm tree))
 
   -- the claims of a tree that is judged sound overflow the map
   pub number_2 : Page p → Made p m
       → (tree_number (tree_registered p m s arm).answer ≡ 2)
       ↔ (Opens s × ((BadReserved tree → ⊥) × (BadSoc arm tree → ⊥)) × Overflows p m claims)
-  number_2 g h = given tree_names MapFull (λ z. omega arith) (full_case g h)
+  number_2 g h = given tree_names (Err MapFull) (λ z. omega arith) (full_case g h)
 
   -- "0 is done": no tree, or one that none of them holds of
   pub number_0 : Page p → Made p m
@@ -217,7 +218,7 @@ module _ (p : ℕ) (m : MemoryMap) (s : List ℕ) (arm : Bool) where
           let w = sound o z in
           inr (o, w, λ f. not_n 2 (λ i. omega arith) (number_2 g h) z (o, w, f))
 
-      back : (a : TreeAnswer) → call.answer ≡ a
+      back : (a : Result Unit TreeRefusal) → call.answer ≡ a
           → (length s ≡ 0) ⊎ (Opens s × ((BadReserved tree → ⊥) × (BadSoc arm tree → ⊥)) × (Overflows p m claims → ⊥)) → tree_number call.answer ≡ 0
       back a e (inl l) = ap tree_number (ap answer (opened NoTree ((no_tree_exactly s).1 l)))
       back a e (inr (o, w, f)) =
@@ -227,19 +228,19 @@ module _ (p : ℕ) (m : MemoryMap) (s : List ℕ) (arm : Bool) where
           (λ n d. absurd (f ((run_full p m claims g h).0 (full_left run.answer n (run_known p m claims (claims_known arm _ tree))))))
 
   -- 0 is the number of one case
-  done_of : (a : TreeAnswer) → tree_number a ≡ 0 → a ≡ Done
-  done_of Done z = refl
-  done_of BadHeader z = never (cc)
-  done_of OverLimit z = never (cc)
-  done_of BadStructure z = never (cc)
-  done_of UnreadableReg z = never (cc)
-  done_of UnreadableRanges z = never (cc)
-  done_of MapFull z = never (cc)
+  done_of : (a : Result Unit TreeRefusal) → tree_number a ≡ 0 → a ≡ Ok tt
+  done_of (Ok tt) z = refl
+  done_of (Err BadHeader) z = never (cc)
+  done_of (Err OverLimit) z = never (cc)
+  done_of (Err BadStructure) z = never (cc)
+  done_of (Err UnreadableReg) z = never (cc)
+  done_of (Err UnreadableRanges) z = never (cc)
+  done_of (Err MapFull) z = never (cc)
 
   -- done: the claims of an opened tree are all registered, in their order
   pub done_registers : Opens s → tree_number (tree_registered p m s arm).answer ≡ 0
       → (answer_number (registered_all p m claims).answer ≡ 0) × ((tree_registered p m s arm).map ≡ (registered_all p m claims).map)
-  done_registers o z = let w = says_of Done (done_of call.answer z) ((opened_exactly s).1 o) in (ap answer_number w.0, w.1)
+  done_registers o z = let w = says_of (Ok tt) (done_of call.answer z) ((opened_exactly s).1 o) in (ap answer_number w.0, w.1)
 
   -- "A tree of 0 bytes is no tree.": done, and nothing is registered
   pub no_tree : length s ≡ 0 → (tree_number (tree_registered p m s arm).answer ≡ 0) × ((tree_registered p m s arm).map ≡ m)
@@ -249,11 +250,11 @@ module _ (p : ℕ) (m : MemoryMap) (s : List ℕ) (arm : Bool) where
   pub refused_keeps : (tree_number (tree_registered p m s arm).answer ≡ 0 → ⊥) → (tree_registered p m s arm).map ≡ m
   refused_keeps f = kept call.answer says f
     where
-      kept : (a : TreeAnswer) → Says call.map a → (tree_number a ≡ 0 → ⊥) → call.map ≡ m
-      kept Done w f = absurd (f refl)
-      kept BadHeader w f = w.0
-      kept OverLimit w f = w.0
-      kept BadStructure w f = w.0
-      kept UnreadableReg w f = w.0
-      kept UnreadableRanges w f = w.0
-      kept MapFull w f = w.0
+      kept : (a : Result Unit TreeRefusal) → Says call.map a → (tree_number a ≡ 0 → ⊥) → call.map ≡ m
+      kept (Ok tt) w f = absurd (f refl)
+      kept (Err BadHeader) w f = w.0
+      kept (Err OverLimit) w f = w.0
+      kept (Err BadStructure) w f = w.0
+      kept (Err UnreadableReg) w f = w.0
+      kept (Err UnreadableRanges) w f = w.0
+      kept (Err MapFull) w f = w.0

@@ -4,7 +4,8 @@ use Rattle.std.specs.Prelude.{ℕ, cond, List, [], ◌∷◌, ◌++◌}
 use Rattle.std.proofs.Math.Option.{Option, some, none as nothing}
 use Rattle.entry.specs.declared.BootloaderMemoryKind.TheVariants.{Device}
 use Rattle.entry.specs.Kind.{number_of}
-use Rattle.entry.specs.Claim.{Claim, claim}
+use Rattle.entry.specs.declared.Claim.{Claim}
+use Rattle.entry.specs.Claim.{claim}
 use Rattle.cells.specs.declared.Region.{Region}
 use Rattle.fdt.specs.Tree.{Nodes, none, node}
 use Rattle.nodes.specs.OnTree.{kids_of}

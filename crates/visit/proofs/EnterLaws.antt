@@ -9,7 +9,7 @@ use mathlib.Core.Option.{Option, none as nothing}
 use lib.ListN.{length}
 use Rattle.words.specs.Bytes.{part_of}
 use Rattle.words.proofs.BytesLaws.{part_length}
-use Rattle.entry.specs.Claim.{Claim}
+use Rattle.entry.specs.declared.Claim.{Claim}
 use Rattle.cells.specs.declared.CellCount.{CellCount}
 use Rattle.cells.specs.declared.CellCount.TheVariants.{Stated, Absent, Faulty}
 use Rattle.cells.specs.declared.Range.{Range}

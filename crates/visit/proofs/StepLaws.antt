@@ -12,7 +12,7 @@ use lib.Dec.{eqb}
 use borrow.Author.Tests.{ne_eqb}
 use Rattle.words.specs.Bytes.{part_of}
 use Rattle.words.proofs.BytesLaws.{never}
-use Rattle.entry.specs.Claim.{Claim}
+use Rattle.entry.specs.declared.Claim.{Claim}
 use Rattle.cells.specs.declared.CellCount.{CellCount}
 use Rattle.cells.specs.declared.Range.{Range}
 use Rattle.cells.specs.declared.RegRow.{RegRow}

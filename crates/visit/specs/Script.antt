@@ -4,7 +4,8 @@ use Rattle.std.proofs.Math.Option.{Option, some, none as nothing}
 use Rattle.words.specs.Bytes.{part_of}
 use Rattle.entry.specs.declared.BootloaderMemoryKind.TheVariants.{Device}
 use Rattle.entry.specs.Kind.{number_of}
-use Rattle.entry.specs.Claim.{Claim, claim}
+use Rattle.entry.specs.declared.Claim.{Claim}
+use Rattle.entry.specs.Claim.{claim}
 use Rattle.cells.specs.declared.CellCount.{CellCount}
 use Rattle.cells.specs.declared.Region.{Region}
 use Rattle.cells.specs.declared.Range.{Range}

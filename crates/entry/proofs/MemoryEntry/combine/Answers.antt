@@ -13,5 +13,5 @@ returns-then-self-other c = gap_joins _ _ (λ t. omega (arith, t.high))
 pub returns : goal.returns
 unfolding union
 returns c =
-    rw (c.lesser-start.ensures, c.greater-end.ensures)
+    rw (c.min-start.ensures, c.max-end.ensures)
     (touch_joins _ _ (record { low = omega arith; high = omega arith }))

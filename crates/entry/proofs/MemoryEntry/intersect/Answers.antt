@@ -11,7 +11,7 @@ returns-then-start-end c =
     let a = c.args.self in
     let b = c.args.other in
     let h : max a.start b.start < min a.end b.end = omega arith in
-    rw (c.greater-start.ensures, c.lesser-end.ensures, lt-ltb _ _ h)
+    rw (c.max-start.ensures, c.min-end.ensures, lt-ltb _ _ h)
 
 pub returns : goal.returns
 unfolding meet overlap
