@@ -7,17 +7,14 @@ ghost use Rattle.entry.specs.Kind.{number_of};
 ghost use Rattle.memory.specs.Made.{Made};
 ghost use Rattle.listing.specs.Listing.{wants_kind, picked, first_of};
 
-use entry::{BootloaderMemoryKind, FoundEntry, MemoryEntry};
+use entry::{BootloaderMemoryKind, MemoryEntry};
 use memory::MemoryMap;
 
 // Whether an entry's kind is the one asked for, or, where that one is not wanted, any other.
 fn is_wanted(kind: u64, wanted: bool, held: u64) -> bool
     ensures { result ≡ wants_kind kind wanted held }
 {
-    if held == kind {
-        return wanted;
-    }
-    !wanted
+    (held == kind) == wanted
 }
 
 // The held entries that are, or are not, of one kind, as a map of their own.
@@ -26,20 +23,12 @@ fn pick(map: MemoryMap, kind: u64, wanted: bool) -> MemoryMap
     ensures { result ≡ picked kind wanted map }
 {
     let mut out = MemoryMap::empty();
-    let mut n: usize = 0;
-    let mut i: usize = 0;
-    while i < map.size {
-        if is_wanted(kind, wanted, map.kinds[i]) {
-            out.starts[n] = map.starts[i];
-            out.ends[n] = map.ends[i];
-            out.kinds[n] = map.kinds[i];
-            n += 1;
-            i += 1;
-        } else {
-            i += 1;
+    for entry in &map.entries[..map.size] {
+        if is_wanted(kind, wanted, entry.kind) {
+            out.entries[out.size] = *entry;
+            out.size += 1;
         }
     }
-    out.size = n;
     out
 }
 
@@ -72,21 +61,14 @@ pub fn identity_mapped(map: MemoryMap) -> MemoryMap
 }
 
 // The first held entry of kind Kernel.
-pub fn kernel(map: MemoryMap) -> FoundEntry
+pub fn kernel(map: MemoryMap) -> Option<MemoryEntry>
     requires { Made 4096 map }
     ensures { result ≡ first_of (number_of BootloaderMemoryKind.Kernel) map }
 {
-    let mut i: usize = 0;
-    while i < map.size {
-        let kind = map.kinds[i];
-        if kind == 0x100 {
-            return FoundEntry::Entry(MemoryEntry {
-                start: map.starts[i],
-                end: map.ends[i],
-                kind,
-            });
+    for entry in &map.entries[..map.size] {
+        if entry.kind == 0x100 {
+            return Some(*entry);
         }
-        i += 1;
     }
-    FoundEntry::Nothing
+    None
 }
