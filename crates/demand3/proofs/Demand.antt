@@ -1,6 +1,6 @@
 -- Demand 3: the address rule, the shape of the areas, and that no order of the registrations matters. For every page size. Assumes nothing.
 use Rattle.areas.specs.declared.AreasRefusal.{AreasRefusal}
-use Rattle.std.specs.Prelude.{Option, Some, None, ℕ, Result}
+use Rattle.std.specs.Prelude.{Option, None, ℕ, Result}
 use mathlib.Core.Path.{◌≡◌, refl, ap, sym, ◌∙◌}
 use mathlib.Core.List.{List}
 use mathlib.Core.Logic.{◌↔◌}

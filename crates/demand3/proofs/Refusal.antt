@@ -31,10 +31,10 @@ built_names = record { back = λ _. (Err TooManyAreas); named = go }
 
 -- ── So many slots ──
 module _ (slots : ℕ) (areas : List Interval) where
-  many : (answer_for slots areas ≡ (Err TooManyAreas)) ↔ (slots < length areas)
+  many : (answer_for slots areas ≡ Err TooManyAreas) ↔ (slots < length areas)
   many = (go (leb (length areas) slots) refl, λ h. rw (lt-leb _ _ h))
     where
-      go : (t : Bool) → leb (length areas) slots ≡ t → cond t (Ok (length areas)) (Err TooManyAreas) ≡ (Err TooManyAreas) → slots < length areas
+      go : (t : Bool) → leb (length areas) slots ≡ t → cond t (Ok (length areas)) (Err TooManyAreas) ≡ Err TooManyAreas → slots < length areas
       go true e q = let z : ◌≡◌ {A = ℕ} 0 1 = cc in omega arith
       go false e q = leb-false _ _ e
 

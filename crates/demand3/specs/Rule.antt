@@ -1,5 +1,5 @@
 -- Demand 3, stated from the registrations and not from the map.
-use Rattle.std.specs.Prelude.{◌≡◌, ◌↔◌, ℕ, ◌-◌, ◌^◌, ◌≤◌, ◌<◌, Option, Some, Ok}
+use Rattle.std.specs.Prelude.{◌≡◌, ◌↔◌, ℕ, ◌-◌, ◌^◌, ◌≤◌, ◌<◌, Option, Ok}
 use mathlib.Core.List.{List, Memᴰ}
 use Rattle.page.specs.Round.{down, up}
 use Rattle.entry.specs.declared.BootloaderMemoryKind.TheVariants.{Null, Free}
@@ -16,7 +16,7 @@ use Rattle.areas.specs.Areas.{or_else, limit_of, areas_of}
 
 -- "If no call is refused": the run from the empty map, one registration after the other, is done
 abbrev pub Accepted : ℕ → List Claim → Type 0
-Accepted p cs = (registered_all p blank cs).answer ≡ (Ok tt)
+Accepted p cs = (registered_all p blank cs).answer ≡ Ok tt
 
 -- the map after the run, and its finished areas
 abbrev pub map_after : ℕ → List Claim → MemoryMap

@@ -5,6 +5,7 @@
 ghost use Rattle.memory.specs.Made.{Made};
 
 use memory::{MemoryMap, Registered};
+use numbers::Numbered;
 use std::io;
 
 fn print_held<P: Print>(out: &P, map: MemoryMap) -> io::Result<()> {
@@ -24,11 +25,8 @@ fn filled() -> MemoryMap
     ensures { Made 4096 result }
 {
     let mut map = MemoryMap::empty();
-    let mut i: u64 = 0;
-    while i < 512 {
-        let r = map.register(i * 0x2000, 0x1000, 1);
-        map = r.map;
-        i += 1;
+    for i in 0..512u64 {
+        map = map.register(i * 0x2000, 0x1000, 1).map;
     }
     map
 }

@@ -12,7 +12,7 @@ use Rattle.late_claim.specs.Late.{late_number, judged, entering, on_done, unchan
 use Rattle.late_claim.proofs.Entering.{enter_at_lem}
 
 -- 0 is the number of Done and of no other answer
-pub zero_done : (a : Result Unit LateRefusal) → late_number a ≡ 0 → a ≡ (Ok tt)
+pub zero_done : (a : Result Unit LateRefusal) → late_number a ≡ 0 → a ≡ Ok tt
 zero_done (Ok tt) e = refl
 zero_done (Err UnknownKind) e = absurd (omega arith)
 zero_done (Err NotLate) e = absurd (omega arith)
@@ -36,15 +36,15 @@ module _ (p : ℕ) (m : MemoryMap) (c : Claim) (n : ℕ) (l : List ℕ) where
   late_judged a e f = rw e (other a f (enter_of p m c n l) (unchanged m n l a))
 
   -- none of these
-  pub late_enters : judged p c.kind n l ≡ (Ok tt) → late_of p m c n l ≡ enter_of p m c n l
+  pub late_enters : judged p c.kind n l ≡ Ok tt → late_of p m c n l ≡ enter_of p m c n l
   unfolding late_of
   late_enters e = rw e
 
   -- 2 or 3
-  pub late_refused : judged p c.kind n l ≡ (Ok tt) → (a : Result Unit LateRefusal) → entering p m c n l ≡ a → (late_number a ≡ 0 → ⊥) → late_of p m c n l ≡ unchanged m n l a
+  pub late_refused : judged p c.kind n l ≡ Ok tt → (a : Result Unit LateRefusal) → entering p m c n l ≡ a → (late_number a ≡ 0 → ⊥) → late_of p m c n l ≡ unchanged m n l a
   late_refused e a g f = late_enters e ∙ enter_at_lem p m c n l a g ∙ other a f (entered p m c n l) (unchanged m n l a)
 
-  pub late_done : judged p c.kind n l ≡ (Ok tt) → entering p m c n l ≡ (Ok tt) → late_of p m c n l ≡ entered p m c n l
+  pub late_done : judged p c.kind n l ≡ Ok tt → entering p m c n l ≡ Ok tt → late_of p m c n l ≡ entered p m c n l
   late_done e g = late_enters e ∙ enter_at_lem p m c n l (Ok tt) g
 
   -- the answer alone

@@ -54,7 +54,7 @@ entered_is : (p : ℕ) (m : MemoryMap) (c : Claim) (n : ℕ) (l : List ℕ) (m' 
     → ◌≡◌ {A = After} (record { map = m'; count = n'; table = l'; answer = (Ok tt) }) (entered p m c n l)
 entered_is p m c n l m' n' l' e f g = rw (e, f, g)
 
-module _ (p : ℕ) (m : MemoryMap) (c : Claim) (n : ℕ) (l : List ℕ) (done : judged p c.kind n l ≡ (Ok tt)) where
+module _ (p : ℕ) (m : MemoryMap) (c : Claim) (n : ℕ) (l : List ℕ) (done : judged p c.kind n l ≡ Ok tt) where
   check : Checked p c.kind n l
   check = checked p c.kind n l done
 
@@ -120,7 +120,7 @@ module _ (p : ℕ) (m : MemoryMap) (c : Claim) (n : ℕ) (l : List ℕ) (done : 
             let k : r.map ≡ m = ap (λ (x : Registered). x.map) q ∙ refused_map p m c v in
             rw k (sym (enter_at_lem p m c n l (Err MapFull) (entering_is false true v enough)))
 
-        pub enter_done : r.answer ≡ (Ok tt) → {l' : List ℕ} {n' : ℕ} → lent n' l' ≡ edited (span pages) n l
+        pub enter_done : r.answer ≡ Ok tt → {l' : List ℕ} {n' : ℕ} → lent n' l' ≡ edited (span pages) n l
             → ◌≡◌ {A = After} (record { map = r.map; count = n'; table = l'; answer = (Ok tt) }) (enter_of p m c n l)
         enter_done u {l'} {n'} d =
             let v : is_done (registered p m c).answer ≡ true = rw q at (ap is_done u) in

@@ -58,11 +58,11 @@ module _ (p kind n : ℕ) (l : List ℕ) where
     pub late : 1 < kind
     pub good : good_table p n l ≡ true
 
-  pub checked : judged p kind n l ≡ (Ok tt) → Checked
+  pub checked : judged p kind n l ≡ Ok tt → Checked
   unfolding judged
   checked done = go (kind_of kind) (never kind) (good_table p n l) refl refl refl done
     where
-      go : (r : Option BootloaderMemoryKind) (t b : Bool) → r ≡ kind_of kind → never kind ≡ t → good_table p n l ≡ b → kind_first r (cond t (Err NotLate) (cond b (Ok tt) (Err BadTable))) ≡ (Ok tt) → Checked
+      go : (r : Option BootloaderMemoryKind) (t b : Bool) → r ≡ kind_of kind → never kind ≡ t → good_table p n l ≡ b → kind_first r (cond t (Err NotLate) (cond b (Ok tt) (Err BadTable))) ≡ Ok tt → Checked
       go (Some k) false true e f g d = record { kind_is = k; known = e; late = late_kind kind f; good = g }
       go (Some k) false false e f g d = absurd (omega (arith, ap late_number d))
       go (Some k) true b e f g d = absurd (omega (arith, ap late_number d))

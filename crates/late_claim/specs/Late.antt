@@ -102,4 +102,4 @@ after_in r s e k l = record { map = map_of s e k r.size; count = r.count; table 
 -- what entering asks: a map made by our calls, and that 1, 13 and 14 are checked
 pub record Enters (p : ℕ) (m : MemoryMap) (kind n : ℕ) (l : List ℕ) : Type 0 where
   pub made : Made p m
-  pub checked : judged p kind n l ≡ (Ok tt)
+  pub checked : judged p kind n l ≡ Ok tt

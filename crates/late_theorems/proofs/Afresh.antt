@@ -25,7 +25,7 @@ use Rattle.lent_table.proofs.LessLaws.{above_solid, less_listed, less_ascends}
 use Rattle.late_claim.specs.Late.{less_claim}
 use Rattle.late_theorems.proofs.Taking.{nothing_ways, registers_nothing}
 
-module _ (p : ℕ) (m : MemoryMap) (c : Claim) (g : Page p) (made : Made p m) (done : (registered p m c).answer ≡ (Ok tt)) (other : c.kind ≡ number_of Free → ⊥) where
+module _ (p : ℕ) (m : MemoryMap) (c : Claim) (g : Page p) (made : Made p m) (done : (registered p m c).answer ≡ Ok tt) (other : c.kind ≡ number_of Free → ⊥) where
   -- the claim adds nothing to the Free entries
   free_stays : (x : ℕ) → LiesFree x (registered p m c).map ↔ LiesFree x m
   free_stays x =

@@ -30,7 +30,7 @@ use Rattle.late_theorems.proofs.Ways.{map_done, unrefused}
 use Rattle.late_theorems.proofs.Came.{used_numbers, built_is, done_is}
 
 -- one more registration of a run
-run_more : (p : ℕ) (cs : List Claim) (c : Claim) → Accepted p cs → (registered p (map_after p cs) c).answer ≡ (Ok tt)
+run_more : (p : ℕ) (cs : List Claim) (c : Claim) → Accepted p cs → (registered p (map_after p cs) c).answer ≡ Ok tt
     → registered_all p blank (cs ++ (c ∷ [])) ≡ answered (registered p (map_after p cs) c).map (Ok tt)
 run_more p cs c a d = run_append p blank cs (c ∷ []) a ∙ run_on p (map_after p cs) c [] d ∙ run_nil p (registered p (map_after p cs) c).map
 

@@ -66,7 +66,7 @@ reads_known k i = known_at i.kind k (sym i.number)
 
 -- ── 2, 3 ──
 -- a registration with the number 0 is done
-pub map_done : (a : Result Unit MapRefusal) → answer_number a ≡ 0 → a ≡ (Ok tt)
+pub map_done : (a : Result Unit MapRefusal) → answer_number a ≡ 0 → a ≡ Ok tt
 map_done (Ok tt) e = refl
 map_done (Err refusal.UnknownKind) e = absurd (omega arith)
 map_done (Err refusal.MapFull) e = absurd (omega arith)
@@ -107,7 +107,7 @@ module _ (p : ℕ) (m : MemoryMap) (c : Claim) (n : ℕ) (l : List ℕ) where
         go false e = refl
 
     module _ (stands : TableStands p n l) where
-      pub late_checked : judged p c.kind n l ≡ (Ok tt)
+      pub late_checked : judged p c.kind n l ≡ Ok tt
       late_checked = sym (judged_done p c.kind n l read (late_large c.kind kind.other) ((table_exactly p n l).1 stands))
 
       pub late_full : answer_number (registered p m c).answer ≡ 2 → late_of p m c n l ≡ unchanged m n l (Err MapFull)

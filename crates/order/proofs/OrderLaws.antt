@@ -104,7 +104,7 @@ module _ (s : List ℕ) where
       go false h = sym h
 
   -- ── The answer ──
-  pub order_bad : good_order s ≡ false → order_of s ≡ (Err BadOrder)
+  pub order_bad : good_order s ≡ false → order_of s ≡ Err BadOrder
   unfolding order_of
   order_bad e = rw e
 
@@ -112,10 +112,10 @@ module _ (s : List ℕ) where
   unfolding order_of
   order_good e = rw e
 
-  bad_case : (order_of s ≡ (Err BadOrder)) ↔ (GoodOrder s → ⊥)
+  bad_case : (order_of s ≡ Err BadOrder) ↔ (GoodOrder s → ⊥)
   bad_case = (to_bad, λ n. order_bad (sym (bad_order n)))
     where
-      to_bad : order_of s ≡ (Err BadOrder) → GoodOrder s → ⊥
+      to_bad : order_of s ≡ Err BadOrder → GoodOrder s → ⊥
       to_bad h g =
           let e = order_good (from_good g) in
           let z : ◌≡◌ {A = ℕ} 0 1 = cc in

@@ -1,5 +1,5 @@
 -- The tests on the registrations, read as the rule of demand 3 says them. Assumes nothing.
-use Rattle.std.specs.Prelude.{Option, Some, ℕ}
+use Rattle.std.specs.Prelude.{Option, ℕ}
 use mathlib.Core.List.{List}
 use mathlib.Core.Bool.{not, ◌&&◌}
 use Prim.Native.Nat.{ℕ, ◌-◌, ◌*◌, ◌^◌, ◌≤◌, ◌<◌}

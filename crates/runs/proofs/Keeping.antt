@@ -112,14 +112,14 @@ pub record Adds (Q : MemoryEntry → Type 0) (p : ℕ) (c : Claim) : Type 0 wher
 
 -- an accepted registration: what was held, and what the claim adds
 pub registered_has : (Q : MemoryEntry → Type 0) → Shared Q → (p : ℕ) (m : MemoryMap) (c : Claim) → Page p → Made p m
-    → (registered p m c).answer ≡ (Ok tt) → Held Q (registered p m c).map ↔ (Held Q m ⊎ Adds Q p c)
+    → (registered p m c).answer ≡ Ok tt → Held Q (registered p m c).map ↔ (Held Q m ⊎ Adds Q p c)
 registered_has Q g p m c pg made done = go (registered p m c) (registered_way p m c) done
   where
-    new : (s : Something p c) → (inserted m (rounded p c)).answer ≡ (Ok tt) → Held Q (inserted m (rounded p c)).map ↔ (Held Q m ⊎ Adds Q p c)
+    new : (s : Something p c) → (inserted m (rounded p c)).answer ≡ Ok tt → Held Q (inserted m (rounded p c)).map ↔ (Held Q m ⊎ Adds Q p c)
     new s =
         let h = pass_has Q g p m (rounded p c) made (rounded_good p c pg s) in
         unfold inserted in
-        placed_ways m (pass m.size (begin m (rounded p c))) (λ q. q.answer ≡ (Ok tt) → Held Q q.map ↔ (Held Q m ⊎ Adds Q p c))
+        placed_ways m (pass m.size (begin m (rounded p c))) (λ q. q.answer ≡ Ok tt → Held Q q.map ↔ (Held Q m ⊎ Adds Q p c))
         (λ l z. absurd (let z : ◌≡◌ {A = ℕ} 0 1 = cc in omega arith))
         (λ l z.
         let t = ended_has Q m _ (going_end p m (rounded p c) made (rounded_good p c pg s)).full l in (
@@ -127,7 +127,7 @@ registered_has Q g p m c pg made done = go (registered p m c) (registered_way p 
           λ w. t.0 (h.0 (⊎_elim (λ v. inl v) (λ a. inr a.inside) w)),
         ))
 
-    go : (r : Registered) → Way p m c r → r.answer ≡ (Ok tt) → Held Q r.map ↔ (Held Q m ⊎ Adds Q p c)
+    go : (r : Registered) → Way p m c r → r.answer ≡ Ok tt → Held Q r.map ↔ (Held Q m ⊎ Adds Q p c)
     go r (no_kind n) e = absurd (let z : ◌≡◌ {A = ℕ} 0 1 = cc in omega arith)
     go r (no_page i n) e = (λ w. inl w, ⊎_elim (λ w. w) (λ a. absurd (n a.something)))
     go r (new_page s) e = new s e

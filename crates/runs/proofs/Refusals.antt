@@ -3,7 +3,7 @@
 use Rattle.memory.specs.declared.MapRefusal.TheVariants.{UnknownKind, MapFull}
 use Rattle.memory.specs.declared.MapRefusal.{MapRefusal}
 use Rattle.entry.specs.declared.BootloaderMemoryKind.{BootloaderMemoryKind}
-use Rattle.std.specs.Prelude.{Option, Some, Result, Ok, Err}
+use Rattle.std.specs.Prelude.{Option, Result, Ok, Err}
 use mathlib.Core.Path.{◌≡◌, refl, ap, sym, ◌∙◌}
 use mathlib.Core.Bool.{true, false, cond, ◌&&◌}
 use mathlib.Core.List.{List, [], ◌∷◌, ◌++◌, Memᴰ}
@@ -34,13 +34,13 @@ use Rattle.runs.specs.Refusals.{Kinds, Kindless, Refused, Overflows}
 use Rattle.runs.proofs.Runs.{done_or, run_nil, run_on, run_stops, run_accepted}
 
 -- two cases of an answer are not one
-done_full : (Ok tt) ≡ (Err MapFull) → ⊥
+done_full : ◌≡◌ {A = Result Unit MapRefusal} (Ok tt) (Err MapFull) → ⊥
 done_full e = let z : ◌≡◌ {A = ℕ} 0 1 = cc in omega arith
 
-done_unknown : (Ok tt) ≡ (Err UnknownKind) → ⊥
+done_unknown : ◌≡◌ {A = Result Unit MapRefusal} (Ok tt) (Err UnknownKind) → ⊥
 done_unknown e = let z : ◌≡◌ {A = ℕ} 0 1 = cc in omega arith
 
-unknown_full : (Err UnknownKind) ≡ (Err MapFull) → ⊥
+unknown_full : ◌≡◌ {A = Result Unit MapRefusal} (Err UnknownKind) (Err MapFull) → ⊥
 unknown_full e = let z : ◌≡◌ {A = ℕ} 0 1 = cc in omega arith
 
 -- 1 and 2 name their cases
@@ -74,23 +74,23 @@ module _ (p : ℕ) (m : MemoryMap) (c : Claim) where
   unfolding inserted
   full_or_done P f g = placed_ways m (pass m.size (begin m (rounded p c))) (λ r. P r.answer) (λ h. f) (λ h. g)
 
-  pub unknown_exactly : ((registered p m c).answer ≡ (Err UnknownKind)) ↔ (IsKind c.kind → ⊥)
+  pub unknown_exactly : ((registered p m c).answer ≡ Err UnknownKind) ↔ (IsKind c.kind → ⊥)
   unknown_exactly = (λ e. there (registered p m c) (registered_way p m c) e, back (registered p m c) (registered_way p m c))
     where
-      there : (r : Registered) → Way p m c r → r.answer ≡ (Err UnknownKind) → IsKind c.kind → ⊥
+      there : (r : Registered) → Way p m c r → r.answer ≡ Err UnknownKind → IsKind c.kind → ⊥
       there r (no_kind n) e = n
       there r (no_page i n) e = absurd (done_unknown e)
-      there r (new_page s) e = absurd (full_or_done (λ a. a ≡ (Err UnknownKind) → ⊥) (λ q. unknown_full (sym q)) done_unknown e)
+      there r (new_page s) e = absurd (full_or_done (λ a. a ≡ Err UnknownKind → ⊥) (λ q. unknown_full (sym q)) done_unknown e)
 
-      back : (r : Registered) → Way p m c r → (IsKind c.kind → ⊥) → r.answer ≡ (Err UnknownKind)
+      back : (r : Registered) → Way p m c r → (IsKind c.kind → ⊥) → r.answer ≡ Err UnknownKind
       back r (no_kind n) f = refl
       back r (no_page i n) f = absurd (f i)
       back r (new_page s) f = absurd (f s.known)
 
-  insert_full : m.size ≤ 512 → (s : Something p c) → ((inserted m (rounded p c)).answer ≡ (Err MapFull)) ↔ Refused p m c
+  insert_full : m.size ≤ 512 → (s : Something p c) → ((inserted m (rounded p c)).answer ≡ Err MapFull) ↔ Refused p m c
   unfolding inserted
   insert_full room s = (
-    placed_ways m (pass m.size (begin m (rounded p c))) (λ r. r.answer ≡ (Err MapFull) → Refused p m c)
+    placed_ways m (pass m.size (begin m (rounded p c))) (λ r. r.answer ≡ Err MapFull → Refused p m c)
         (λ h z.
         let w = whole_end m (rounded p c) in
         record {
@@ -99,20 +99,20 @@ module _ (p : ℕ) (m : MemoryMap) (c : Claim) where
           alone = λ j l. w.done (omega (arith, w.most)) j (omega (arith, w.most));
         })
         (λ h z. absurd (done_full z)),
-    λ f. placed_ways m (pass m.size (begin m (rounded p c))) (λ r. r.answer ≡ (Err MapFull))
+    λ f. placed_ways m (pass m.size (begin m (rounded p c))) (λ r. r.answer ≡ Err MapFull)
         (λ h. refl)
         (λ h. absurd (omega (arith, (still_end m (rounded p c) f.alone).all, f.full))),
   )
 
-  pub full_exactly : m.size ≤ 512 → ((registered p m c).answer ≡ (Err MapFull)) ↔ Refused p m c
+  pub full_exactly : m.size ≤ 512 → ((registered p m c).answer ≡ Err MapFull) ↔ Refused p m c
   full_exactly room = (there (registered p m c) (registered_way p m c), back (registered p m c) (registered_way p m c))
     where
-      there : (r : Registered) → Way p m c r → r.answer ≡ (Err MapFull) → Refused p m c
+      there : (r : Registered) → Way p m c r → r.answer ≡ Err MapFull → Refused p m c
       there r (no_kind n) e = absurd (unknown_full e)
       there r (no_page i n) e = absurd (done_full e)
       there r (new_page s) e = (insert_full room s).0 e
 
-      back : (r : Registered) → Way p m c r → Refused p m c → r.answer ≡ (Err MapFull)
+      back : (r : Registered) → Way p m c r → Refused p m c → r.answer ≡ Err MapFull
       back r (no_kind n) f = absurd (n f.nonempty.known)
       back r (no_page i n) f = absurd (n f.nonempty)
       back r (new_page s) f = (insert_full room s).1 f
@@ -146,12 +146,12 @@ module _ (p : ℕ) (m : MemoryMap) (c : Claim) where
   pub refused_keeps : (answer_number (registered p m c).answer ≡ 0 → ⊥) → (registered p m c).map ≡ m
   refused_keeps f = go (registered p m c) (registered_way p m c) (λ e. f (ap answer_number e))
     where
-      go : (r : Registered) → Way p m c r → (r.answer ≡ (Ok tt) → ⊥) → r.map ≡ m
+      go : (r : Registered) → Way p m c r → (r.answer ≡ Ok tt → ⊥) → r.map ≡ m
       go r (no_kind n) = λ f. refl
       go r (no_page i n) = λ f. refl
       go r (new_page s) =
           unfold inserted in
-          placed_ways m (pass m.size (begin m (rounded p c))) (λ q. (q.answer ≡ (Ok tt) → ⊥) → q.map ≡ m) (λ h n. refl) (λ h n. absurd (n refl))
+          placed_ways m (pass m.size (begin m (rounded p c))) (λ q. (q.answer ≡ Ok tt → ⊥) → q.map ≡ m) (λ h n. refl) (λ h n. absurd (n refl))
 
 -- ── A run of claims that all have a kind ──
 -- judging tells the two apart
@@ -174,7 +174,7 @@ judged (c ∷ cs) = go (kind_of c.kind) (reads c.kind) (judged cs)
         w
 
 -- such a run is never refused for a kind
-pub run_known : (p : ℕ) (m : MemoryMap) (cs : List Claim) → Kinds cs → (registered_all p m cs).answer ≡ (Err UnknownKind) → ⊥
+pub run_known : (p : ℕ) (m : MemoryMap) (cs : List Claim) → Kinds cs → (registered_all p m cs).answer ≡ Err UnknownKind → ⊥
 run_known p m [] f e = done_unknown (ap (λ (r : Registered). r.answer) (sym (run_nil p m)) ∙ e)
 run_known p m (c ∷ cs) f e =
     done_or (registered p m c).answer ⊥
@@ -182,10 +182,10 @@ run_known p m (c ∷ cs) f e =
     (λ n s. (unknown_exactly p m c).0 (rw (run_stops p m c cs s) at e) (f c (Memᴰ.head refl)))
 
 -- and is refused for want of a slot exactly when it overflows
-pub run_full : (p : ℕ) (m : MemoryMap) (cs : List Claim) → Page p → Made p m → ((registered_all p m cs).answer ≡ (Err MapFull)) ↔ Overflows p m cs
+pub run_full : (p : ℕ) (m : MemoryMap) (cs : List Claim) → Page p → Made p m → ((registered_all p m cs).answer ≡ Err MapFull) ↔ Overflows p m cs
 run_full p m cs g made = (there m cs made, λ o. back m o.before o.next o.after cs made o.run o.accepted o.refused)
   where
-    there : (n : MemoryMap) (ds : List Claim) → Made p n → (registered_all p n ds).answer ≡ (Err MapFull) → Overflows p n ds
+    there : (n : MemoryMap) (ds : List Claim) → Made p n → (registered_all p n ds).answer ≡ Err MapFull → Overflows p n ds
     there n [] h e = absurd (done_full (ap (λ (r : Registered). r.answer) (sym (run_nil p n)) ∙ e))
     there n (d ∷ ds) h e =
         done_or (registered p n d).answer (Overflows p n (d ∷ ds))
@@ -209,7 +209,7 @@ run_full p m cs g made = (there m cs made, λ o. back m o.before o.next o.after 
         })
 
     back : (n : MemoryMap) (bs : List Claim) (d : Claim) (ds es : List Claim) → Made p n → es ≡ bs ++ (d ∷ ds)
-        → (registered_all p n bs).answer ≡ (Ok tt) → Refused p (registered_all p n bs).map d → (registered_all p n es).answer ≡ (Err MapFull)
+        → (registered_all p n bs).answer ≡ Ok tt → Refused p (registered_all p n bs).map d → (registered_all p n es).answer ≡ Err MapFull
     back n [] d ds es h e a r =
         let f : (registered p n d).answer ≡ (Err MapFull) = (full_exactly p n d h.room).1 (rw (run_nil p n) at r) in
         rw (e, run_stops p n d ds (ap is_done f)) f
@@ -229,16 +229,16 @@ module _ (p : ℕ) (m : MemoryMap) (l : List ℕ) where
   all_known_answer : all_known l ≡ true → (listed p m l).answer ≡ (registered_all p m (claims l)).answer
   all_known_answer e = ap (λ (q : Registered). q.answer) (listed_known p m l e) ∙ settled_answer m (registered_all p m (claims l))
 
-  not_known_answer : all_known l ≡ false → (listed p m l).answer ≡ (Err UnknownKind)
+  not_known_answer : all_known l ≡ false → (listed p m l).answer ≡ Err UnknownKind
   not_known_answer e = ap (λ (q : Registered). q.answer) (listed_unknown p m l e)
 
-  pub list_unknown_exactly : ((listed p m l).answer ≡ (Err UnknownKind)) ↔ Some Kindless (claims l)
+  pub list_unknown_exactly : ((listed p m l).answer ≡ Err UnknownKind) ↔ Some Kindless (claims l)
   list_unknown_exactly = (
     λ e. ⊎_elim (λ y. absurd (run_known p m (claims l) y.1 (sym (all_known_answer y.0) ∙ e))) (λ y. y.1) (judged (claims l)),
     λ s. ⊎_elim (λ y. absurd (s.is (y.1 s.claim s.among))) (λ y. not_known_answer y.0) (judged (claims l)),
   )
 
-  pub list_full_exactly : Page p → Made p m → ((listed p m l).answer ≡ (Err MapFull)) ↔ (Kinds (claims l) × Overflows p m (claims l))
+  pub list_full_exactly : Page p → Made p m → ((listed p m l).answer ≡ Err MapFull) ↔ (Kinds (claims l) × Overflows p m (claims l))
   list_full_exactly g made = (
     λ e. ⊎_elim
         (λ y. (y.1, (run_full p m (claims l) g made).0 (sym (all_known_answer y.0) ∙ e)))
@@ -274,7 +274,7 @@ module _ (p : ℕ) (m : MemoryMap) (l : List ℕ) where
       back (Err MapFull) e w = absurd (w.1 ((list_full_exactly g made).0 e).1)
 
   -- a list that is done is the run of its claims
-  pub list_done : (listed p m l).answer ≡ (Ok tt) → listed p m l ≡ registered_all p m (claims l)
+  pub list_done : (listed p m l).answer ≡ Ok tt → listed p m l ≡ registered_all p m (claims l)
   list_done e =
       ⊎_elim
       (λ y. listed_known p m l y.0 ∙ settled_done m _ (ap is_done (sym (all_known_answer y.0) ∙ e)))

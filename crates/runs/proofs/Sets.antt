@@ -39,16 +39,16 @@ of_shared k x a b t = (
 )
 
 -- an accepted claim has one of the kinds
-accepted_kind : (p : ℕ) (m : MemoryMap) (c : Claim) → (registered p m c).answer ≡ (Ok tt) → IsKind c.kind
+accepted_kind : (p : ℕ) (m : MemoryMap) (c : Claim) → (registered p m c).answer ≡ Ok tt → IsKind c.kind
 accepted_kind p m c e = go (registered p m c) (registered_way p m c) e
   where
-    go : (r : Registered) → Way p m c r → r.answer ≡ (Ok tt) → IsKind c.kind
+    go : (r : Registered) → Way p m c r → r.answer ≡ Ok tt → IsKind c.kind
     go r (no_kind n) f = absurd (let z : ◌≡◌ {A = ℕ} 0 1 = cc in omega arith)
     go r (no_page i n) f = i
     go r (new_page s) f = s.known
 
 -- "Each accepted registration does what adding its pages to a plain set per kind does."
-pub registered_adds : (p : ℕ) (m : MemoryMap) (c : Claim) → Page p → Made p m → (registered p m c).answer ≡ (Ok tt) → (k x : ℕ)
+pub registered_adds : (p : ℕ) (m : MemoryMap) (c : Claim) → Page p → Made p m → (registered p m c).answer ≡ Ok tt → (k x : ℕ)
     → Covered k x (registered p m c).map ↔ (Covered k x m ⊎ Registers p k x c)
 registered_adds p m c g made done k x =
     let h = registered_has (Of k x) (of_shared k x) p m c g made done in (
@@ -82,7 +82,7 @@ some_cases P c cs s =
     (Memᴰ.cases_cons s.among)
 
 -- from any made map
-pub run_adds : (p : ℕ) (m : MemoryMap) (cs : List Claim) → Page p → Made p m → (registered_all p m cs).answer ≡ (Ok tt) → (k x : ℕ)
+pub run_adds : (p : ℕ) (m : MemoryMap) (cs : List Claim) → Page p → Made p m → (registered_all p m cs).answer ≡ Ok tt → (k x : ℕ)
     → Covered k x (registered_all p m cs).map ↔ (Covered k x m ⊎ Some (Registers p k x) cs)
 run_adds p m [] g made e k x = rw (run_nil p m) (λ w. inl w, ⊎_elim (λ w. w) (λ s. absurd (some_none _ s)))
 run_adds p m (c ∷ cs) g made e k x =
@@ -107,7 +107,7 @@ blank_none k x w = omega (arith, w.held)
 
 -- THEOREM 1, plain sets: after any accepted run from the empty map, an address is covered by kind k exactly when
 -- some registration of kind k with size not 0, rounded, covers it
-pub plain_sets : (p : ℕ) (cs : List Claim) → Page p → (registered_all p blank cs).answer ≡ (Ok tt) → (k x : ℕ)
+pub plain_sets : (p : ℕ) (cs : List Claim) → Page p → (registered_all p blank cs).answer ≡ Ok tt → (k x : ℕ)
     → Covered k x (registered_all p blank cs).map ↔ Some (Registers p k x) cs
 plain_sets p cs g e k x =
     let h = run_adds p blank cs g (blank_made p) e k x in

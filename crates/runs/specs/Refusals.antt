@@ -27,5 +27,5 @@ pub record Overflows (p : ℕ) (m : MemoryMap) (cs : List Claim) : Type 0 where
   pub next : Claim
   pub after : List Claim
   pub run : cs ≡ before ++ (next ∷ after)
-  pub accepted : (registered_all p m before).answer ≡ (Ok tt)
+  pub accepted : (registered_all p m before).answer ≡ Ok tt
   pub refused : Refused p (registered_all p m before).map next

@@ -30,7 +30,7 @@ run_refused p m (c ∷ cs) ds e =
     (λ n s. run_stops p m c (cs ++ ds) s ∙ sym (run_stops p m c cs s))
 
 -- the answer whose number is 1
-is_unknown : (a : Result Unit MapRefusal) → answer_number a ≡ 1 → a ≡ (Err UnknownKind)
+is_unknown : (a : Result Unit MapRefusal) → answer_number a ≡ 1 → a ≡ Err UnknownKind
 is_unknown (Ok tt) e = absurd (omega arith)
 is_unknown (Err UnknownKind) e = refl
 is_unknown (Err MapFull) e = absurd (omega arith)
@@ -53,7 +53,7 @@ module _ (p : ℕ) (m : MemoryMap) (l : List ℕ) (x : Registered) (is : x ≡ l
       go true e = refl
       go false e = absurd (f (rw (is, listed_unknown p m l e)))
 
-  pub list_runs : x.answer ≡ (Ok tt) → x ≡ registered_all p m (claims l)
+  pub list_runs : x.answer ≡ Ok tt → x ≡ registered_all p m (claims l)
   list_runs d = is ∙ list_done p m l (rw is at d)
 
   pub list_refused : all_known l ≡ true → is_done x.answer ≡ false → is_done (registered_all p m (claims l)).answer ≡ false
