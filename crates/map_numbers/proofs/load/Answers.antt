@@ -1,16 +1,13 @@
--- `map_numbers::load`: three copies over local arrays, and the last number, are the map in the numbers (NumberLaws). Assumes nothing.
-use mathlib.Core.Path.{◌∙◌}
-use lib.ListN.{drop}
-use Rattle.map_numbers.proofs.NumberLaws.{over, loads}
+use mathlib.Core.Path.{◌≡◌, ap}
+use native.Mathlib.Omega.{arith}
+use lib.ListN.{get_or}
+use Rattle.memory.specs.Map.{Slots, map_of}
+use Rattle.map_numbers.specs.Numbers.{map_in}
+use Rattle.map_numbers.proofs.Places.{reads_all}
 use Rattle.map_numbers.proofs.load.Goals as goal
 
 pub returns : goal.returns
+unfolding map_in
 returns c =
-    let d = c in
-    let e = d in
-    let f = e in
-    let l = f.args.memory.now in
-    loads l
-    (f.copy.ensures ∙ over l)
-    (e.copy-2.ensures ∙ over (drop 512 l))
-    (d.copy-3.ensures ∙ over (drop 1024 l))
+    let e : c.loop-i.i ≡ 512 = omega arith in
+    ap (λ (es : Slots). map_of es (get_or c.args.memory.now 1536 0)) (reads_all (rw e at c.loop-i.invariant))
