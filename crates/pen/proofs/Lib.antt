@@ -1,3 +1,2 @@
 pub mod LengthLaws
 pub mod WritingLaws
-pub mod TurnLaws

@@ -26,12 +26,9 @@ pub fn put(out: &mut [u8], at: usize, bytes: &[u8]) -> usize
     if !has_room(out.len(), at, bytes.len()) {
         return at;
     }
-    let mut i: usize = 0;
-    while i < bytes.len() {
-        out[at + i] = bytes[i];
-        i += 1;
-    }
-    at + i
+    let end = at + bytes.len();
+    out[at..end].copy_from_slice(bytes);
+    end
 }
 
 // The same, the last byte first.
@@ -41,12 +38,11 @@ pub fn put_turned(out: &mut [u8], at: usize, bytes: &[u8]) -> usize
     if !has_room(out.len(), at, bytes.len()) {
         return at;
     }
-    let mut i: usize = 0;
-    while i < bytes.len() {
-        out[at + i] = bytes[bytes.len() - 1 - i];
-        i += 1;
-    }
-    at + i
+    let end = at + bytes.len();
+    let part = &mut out[at..end];
+    part.copy_from_slice(bytes);
+    part.reverse();
+    end
 }
 
 // So many zero bytes.
@@ -56,12 +52,9 @@ pub fn put_zeros(out: &mut [u8], at: usize, n: usize) -> usize
     if !has_room(out.len(), at, n) {
         return at;
     }
-    let mut i: usize = 0;
-    while i < n {
-        out[at + i] = 0;
-        i += 1;
-    }
-    at + i
+    let end = at + n;
+    out[at..end].fill(0);
+    end
 }
 
 // A number in four bytes; of a larger one the lowest four.
@@ -103,14 +96,5 @@ pub fn turn_from(out: &mut [u8], from: usize)
     if out.len() < from {
         return;
     }
-    let mut lo = from;
-    let mut hi = out.len();
-    while lo + 1 < hi {
-        hi -= 1;
-        let a = out[lo];
-        let b = out[hi];
-        out[lo] = b;
-        out[hi] = a;
-        lo += 1;
-    }
+    out[from..].reverse();
 }
