@@ -1,2 +1,3 @@
 pub mod LengthLaws
 pub mod WritingLaws
+pub mod NumberLaws

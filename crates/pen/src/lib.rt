@@ -61,32 +61,15 @@ pub fn put_zeros(out: &mut [u8], at: usize, n: usize) -> usize
 pub fn put32(out: &mut [u8], at: usize, w: usize) -> usize
     ensures { Put out.old at (bytes4 w) out.new result }
 {
-    let b = [
-        (w / 256 / 256 / 256 % 256) as u8,
-        (w / 256 / 256 % 256) as u8,
-        (w / 256 % 256) as u8,
-        (w % 256) as u8,
-    ];
-    put(out, at, &b)
+    let low = (w % 0x1_0000_0000) as u32;
+    put(out, at, &low.to_be_bytes())
 }
 
 // A number in eight bytes.
 pub fn put64(out: &mut [u8], at: usize, w: u64) -> usize
     ensures { Put out.old at (bytes8 w) out.new result }
 {
-    let high = w / 0x1_0000_0000;
-    let low = w % 0x1_0000_0000;
-    let b = [
-        (high / 256 / 256 / 256 % 256) as u8,
-        (high / 256 / 256 % 256) as u8,
-        (high / 256 % 256) as u8,
-        (high % 256) as u8,
-        (low / 256 / 256 / 256 % 256) as u8,
-        (low / 256 / 256 % 256) as u8,
-        (low / 256 % 256) as u8,
-        (low % 256) as u8,
-    ];
-    put(out, at, &b)
+    put(out, at, &w.to_be_bytes())
 }
 
 // Turns the bytes from a place on round: the last first.
