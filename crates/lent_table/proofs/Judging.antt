@@ -101,8 +101,8 @@ module _ {l : List ℕ} {from n x k : ℕ} (inv : Passing l from n x k) where
       ap (λ (m : List Interval). lead x m) (slot_more l n k h inv.room) ∙ lead_stop x (span_at l k) (from_slot l n (k + 1)) e in
       record { low = inv.low; high = inv.high; count = omega (arith, inv.goal); stop = λ i. leb-false (span_at l k).hi x e }
 
-  pub passes_end : n ≤ k → Past l from n x k
+  pub passes_end : n ≤ k → Past l from n x n
   unfolding lead
   passes_end h =
       let f : lead x (from_slot l n k) ≡ 0 = ap (λ (m : List Interval). lead x m) (slot_end l n k h) in
-      record { low = inv.low; high = inv.high; count = omega (arith, inv.goal); stop = λ i. absurd (omega arith) }
+      record { low = omega (arith, inv.low, inv.high); high = omega arith; count = omega (arith, inv.goal, inv.high); stop = λ i. absurd (omega arith) }

@@ -1,112 +1,97 @@
--- `insert_area`, `clear` and `slide`: the loops that move numbers in the lent slots. In each, every answer from here is an answer from the start.
+-- `insert_area`, `clear` and `slide`: what a copy and zeros come to in the lent slots, where it is known what stands before and behind them.
 -- Assumes nothing.
 use mathlib.Core.Path.{◌≡◌, refl, ap, ap₂, sym, ◌∙◌}
 use mathlib.Core.List.{List, [], ◌∷◌, ◌++◌, append_assoc}
-use Prim.Native.Nat.{ℕ, zero, suc, ◌+◌, ◌≤◌, ◌<◌}
+use Prim.Native.Nat.{ℕ, ◌+◌, ◌-◌, ◌≤◌, ◌<◌}
 use native.Mathlib.Omega.{arith}
-use lib.ListN.{length, get_or, set, replicate, length-set, length-append, length-replicate}
-use lib.Seq.{set_at, get_or_at}
+use lib.ListN.{length, set, take, drop, replicate, length-append, length-replicate, length-take, length-drop}
+use lib.Seq.{take_at, drop_at, drop-drop}
+use borrow.Rule.Slice.PartMut.{mid_of, put_mid}
+use Rattle.std.specs.List.{copy_within}
 use Rattle.lent_table.specs.Steps.{Inserted, Cleared, Slid}
-use Rattle.lent_table.proofs.SlotLaws.{get_base, get_size, set_slot}
+use Rattle.lent_table.proofs.SlotLaws.{set_slot}
 
--- the numbers so far have their length, and whatever answers from them answers from those at the start
-pub record Going (l₀ l : List ℕ) (First Next : List ℕ → Type 0) : Type 0 where
-  pub size : length l ≡ length l₀
-  pub back : (l' : List ℕ) → Next l' → First l'
+-- as many as the part of the list
+part_length : (l : List ℕ) (from to : ℕ) → from ≤ to → to ≤ length l → length (mid_of from (to - from) l) ≡ to - from
+part_length l from to h room = omega (arith, length-take (to - from) (drop from l), length-drop from l)
 
-pub goes : {First : List ℕ → Type 0} (l : List ℕ) → Going l l First First
-goes l = record { size = refl; back = λ l' h. h }
-
--- the number v at the seam belongs to the front
-seam : (a : List ℕ) (v : ℕ) (b : List ℕ) → (a ++ (v ∷ [])) ++ b ≡ a ++ (v ∷ b)
-seam a v b = append_assoc a (v ∷ []) b
-
-longer : (a : List ℕ) (v k : ℕ) → length a ≡ k → length (a ++ (v ∷ [])) ≡ k + 1
-longer a v k e = omega (arith, length-append a (v ∷ []))
+-- what comes of a part that is put into a list, from where a ends on
+put_part : (l a r d z : List ℕ) (i k : ℕ) → length a ≡ i → l ≡ a ++ r → drop k r ≡ d → put_mid i k l z ≡ a ++ (z ++ d)
+put_part l a r d z i k la e last =
+    ap (λ (x : List ℕ). put_mid i k x z) e
+    ∙ ap₂ (λ (x y : List ℕ). x ++ (z ++ drop k y)) (take_at a r i la) (drop_at a r i la)
+    ∙ ap (λ (x : List ℕ). a ++ (z ++ x)) last
 
 -- ── clear ──
-cleared_on : (l : List ℕ) (k to : ℕ) → k < to → (l' : List ℕ) → Cleared (set l k 0) (k + 1) to l' → Cleared l k to l'
+pub cleared : (l : List ℕ) (from to : ℕ) (z : List ℕ) → from < to → to ≤ length l → z ≡ replicate (length (mid_of from (to - from) l)) 0
+    → Cleared l from to (put_mid from (to - from) l z)
 unfolding Cleared
-cleared_on l k to h l' go a [] c la lb e = absurd (omega arith)
-cleared_on l k to h l' go a (x ∷ b) c la lb e =
-    go (a ++ (0 ∷ [])) b c (longer a 0 k la) (omega arith)
-    (ap (λ (m : List ℕ). set m k 0) e ∙ set_at a x (b ++ c) 0 k la ∙ sym (seam a 0 (b ++ c)))
-    ∙ seam a 0 (replicate (length b) 0 ++ c)
+cleared l from to z h room zeros a b c la lb e =
+    let n : length b ≡ to - from = omega arith in
+    let m : length (mid_of from (to - from) l) ≡ length b = part_length l from to (omega arith) room ∙ sym n in
+    put_part l a (b ++ c) c z from (to - from) la e (drop_at b c (to - from) n) ∙ ap (λ (x : List ℕ). a ++ (x ++ c)) (zeros ∙ ap (λ (k : ℕ). replicate k 0) m)
 
-cleared_end : (l : List ℕ) (k to : ℕ) → to ≤ k → Cleared l k to l
+pub cleared_none : (l : List ℕ) (from to : ℕ) → to ≤ from → Cleared l from to l
 unfolding Cleared
-cleared_end l k to h a [] c la lb e = e
-cleared_end l k to h a (x ∷ b) c la lb e = absurd (omega arith)
+cleared_none l from to h a [] c la lb e = e
+cleared_none l from to h a (x ∷ b) c la lb e = absurd (omega arith)
 
 -- ── insert_area ──
-module _ (l : List ℕ) (k n base size : ℕ) where
-  inserted_on : k < n → (l' : List ℕ)
-      → Inserted (set (set l (k + k) base) (k + k + 1) size) (k + 1) n (get_or l (k + k) 0) (get_or l (k + k + 1) 0) l' → Inserted l k n base size l'
-  unfolding Inserted
-  inserted_on h l' go a [] d y z la lc e = absurd (omega arith)
-  inserted_on h l' go a (u ∷ []) d y z la lc e = absurd (omega arith)
-  inserted_on h l' go a (u ∷ v ∷ c) d y z la lc e =
-      let rest : List ℕ = c ++ (y ∷ z ∷ d) in
-      let two : List ℕ = base ∷ size ∷ [] in
-      go (a ++ two) c d y z (omega (arith, length-append a two)) (omega arith)
-      (set_slot l k a u v rest la e base size ∙ sym (append_assoc a two rest))
-      ∙ append_assoc a two (get_or l (k + k) 0 ∷ get_or l (k + k + 1) 0 ∷ (c ++ d))
-      ∙ ap₂ (λ (s t : ℕ). a ++ (base ∷ size ∷ s ∷ t ∷ (c ++ d))) (get_base l k a u v rest la e) (get_size l k a u v rest la e)
+module _ (l m : List ℕ) (at n : ℕ) (copied : m ≡ copy_within l (at + at) (n + n) (at + at + 2)) where
+  -- p and q are the two numbers in slot `at`, which stay there till they are written over
+  moved : (a c d : List ℕ) (y z p q : ℕ) (w : List ℕ) → length a ≡ at + at → at + at + length c ≡ n + n → l ≡ a ++ (c ++ (y ∷ z ∷ d))
+      → c ++ (y ∷ z ∷ d) ≡ p ∷ q ∷ w → m ≡ a ++ (p ∷ q ∷ (c ++ d))
+  moved a c d y z p q w la lc e f =
+      let i = at + at in
+      let k = n + n - i in
+      let two : List ℕ = p ∷ q ∷ [] in
+      let ends : List ℕ = y ∷ z ∷ [] in
+      let front : l ≡ (a ++ two) ++ w = e ∙ ap (λ (x : List ℕ). a ++ x) f ∙ sym (append_assoc a two w) in
+      let whole : l ≡ (a ++ (c ++ ends)) ++ d =
+      e ∙ ap (λ (x : List ℕ). a ++ x) (sym (append_assoc c ends d)) ∙ sym (append_assoc a (c ++ ends) d) in
+      let first : take (i + 2) l ≡ a ++ two = ap (λ (x : List ℕ). take (i + 2) x) front ∙ take_at (a ++ two) w (i + 2) (omega (arith, length-append a two)) in
+      let middle : take k (drop i l) ≡ c =
+      ap (λ (x : List ℕ). take k x) (ap (λ (x : List ℕ). drop i x) e ∙ drop_at a (c ++ (y ∷ z ∷ d)) i la) ∙ take_at c (y ∷ z ∷ d) k (omega arith) in
+      let last : drop (i + 2 + k) l ≡ d =
+      ap (λ (x : List ℕ). drop (i + 2 + k) x) whole
+      ∙ drop_at (a ++ (c ++ ends)) d (i + 2 + k) (omega (arith, length-append a (c ++ ends), length-append c ends)) in
+      copied
+      ∙ ap₂ (λ (x y : List ℕ). x ++ y) (ap₂ (λ (x y : List ℕ). x ++ y) first middle) last
+      ∙ append_assoc (a ++ two) c d ∙ append_assoc a two (c ++ d)
 
-  inserted_end : n ≤ k → Inserted l k n base size (set (set l (k + k) base) (k + k + 1) size)
+  pub inserted : (base size : ℕ) → Inserted l at n base size (set (set m (at + at) base) (at + at + 1) size)
   unfolding Inserted
-  inserted_end h a [] d y z la lc e = set_slot l k a y z d la e base size
-  inserted_end h a (u ∷ c) d y z la lc e = absurd (omega arith)
+  inserted base size a [] d y z la lc e = set_slot m at a y z d la (moved a [] d y z y z d la lc e refl) base size
+  inserted base size a (u ∷ []) d y z la lc e = absurd (omega arith)
+  inserted base size a (u ∷ v ∷ c) d y z la lc e =
+      set_slot m at a u v ((u ∷ v ∷ c) ++ d) la (moved a (u ∷ v ∷ c) d y z u v (c ++ (y ∷ z ∷ d)) la lc e refl) base size
 
 -- ── slide ──
--- a zero behind zeros stands before them
-zeros : (g : ℕ) (b : List ℕ) → replicate g 0 ++ (0 ∷ b) ≡ 0 ∷ (replicate g 0 ++ b)
-zeros zero b = refl
-zeros (suc g) b = ap (λ (m : List ℕ). 0 ∷ m) (zeros g b)
+pub slid : (l m : List ℕ) (to from end : ℕ) (z : List ℕ) → to ≤ from → from < end → end ≤ length l → length m ≡ length l
+    → m ≡ copy_within l from end to → z ≡ replicate (length (mid_of (end - (from - to)) (end - (end - (from - to))) m)) 0
+    → Slid l to from end (put_mid (end - (from - to)) (end - (end - (from - to))) m z)
+unfolding Slid
+slid l m to from end z down some room same copied zeros a c d g la lg lc e =
+    let s = end - (from - to) in
+    let k = end - s in
+    let gap : k ≡ g = omega arith in
+    let front : length (a ++ replicate g 0) ≡ from = omega (arith, length-append a (replicate g 0), length-replicate {A = ℕ} g 0) in
+    let whole : l ≡ (a ++ replicate g 0) ++ (c ++ d) = e ∙ sym (append_assoc a (replicate g 0) (c ++ d)) in
+    let first : take to l ≡ a = ap (λ (x : List ℕ). take to x) e ∙ take_at a (replicate g 0 ++ (c ++ d)) to la in
+    let behind : drop from l ≡ c ++ d = ap (λ (x : List ℕ). drop from x) whole ∙ drop_at (a ++ replicate g 0) (c ++ d) from front in
+    let middle : take (end - from) (drop from l) ≡ c = ap (λ (x : List ℕ). take (end - from) x) behind ∙ take_at c d (end - from) (omega arith) in
+    let rest = drop (to + (end - from)) l in
+    let put : m ≡ (a ++ c) ++ rest = copied ∙ ap₂ (λ (x y : List ℕ). (x ++ y) ++ rest) first middle in
+    let at : length (a ++ c) ≡ s = omega (arith, length-append a c) in
+    let last : drop k rest ≡ d =
+    drop-drop k (to + (end - from)) l ∙ ap (λ (j : ℕ). drop j l) (omega arith) ∙ sym (drop-drop (length c) from l)
+    ∙ ap (λ (x : List ℕ). drop (length c) x) behind ∙ drop_at c d (length c) refl in
+    let size : length (mid_of s k m) ≡ g = part_length m s end (omega arith) (omega arith) ∙ gap in
+    put_part m (a ++ c) rest d z s k at put last
+    ∙ ap (λ (x : List ℕ). (a ++ c) ++ (x ++ d)) (zeros ∙ ap (λ (j : ℕ). replicate j 0) size)
+    ∙ append_assoc a c (replicate g 0 ++ d)
 
-module _ (l : List ℕ) (t f end : ℕ) where
-  slid_on : f < end → (l' : List ℕ) → Slid (set (set l f 0) t (get_or l f 0)) (t + 1) (f + 1) end l' → Slid l t f end l'
-  unfolding Slid
-  slid_on h l' go a [] d g la lg lc e = absurd (omega arith)
-  slid_on h l' go a (z ∷ c) d g la lg lc e =
-      let at : length (a ++ replicate g 0) ≡ f = omega (arith, length-append a (replicate g 0), length-replicate {A = ℕ} g 0) in
-      let whole : l ≡ (a ++ replicate g 0) ++ (z ∷ (c ++ d)) = e ∙ sym (append_assoc a (replicate g 0) (z ∷ (c ++ d))) in
-      let z= : get_or l f 0 ≡ z = ap (λ (m : List ℕ). get_or m f 0) whole ∙ get_or_at (a ++ replicate g 0) z (c ++ d) 0 f at in
-      let once : set l f 0 ≡ a ++ (0 ∷ (replicate g 0 ++ (c ++ d))) =
-      ap (λ (m : List ℕ). set m f 0) whole ∙ set_at (a ++ replicate g 0) z (c ++ d) 0 f at
-      ∙ append_assoc a (replicate g 0) (0 ∷ (c ++ d)) ∙ ap (λ (m : List ℕ). a ++ m) (zeros g (c ++ d)) in
-      let v = get_or l f 0 in
-      go (a ++ (v ∷ [])) c d g (longer a v t la) (omega arith) (omega arith)
-      (ap (λ (m : List ℕ). set m t v) once ∙ set_at a 0 (replicate g 0 ++ (c ++ d)) v t la ∙ sym (seam a v (replicate g 0 ++ (c ++ d))))
-      ∙ seam a v (c ++ (replicate g 0 ++ d)) ∙ ap (λ (w : ℕ). a ++ (w ∷ (c ++ (replicate g 0 ++ d)))) z=
-
-  slid_end : end ≤ f → Slid l t f end l
-  unfolding Slid
-  slid_end h a [] d g la lg lc e = e
-  slid_end h a (z ∷ c) d g la lg lc e = absurd (omega arith)
-
--- ── Their loops ──
-module _ {First : List ℕ → Type 0} {l₀ l : List ℕ} where
-  pub clears_on : {k to : ℕ} → Going l₀ l First (Cleared l k to) → k < to → Going l₀ (set l k 0) First (Cleared (set l k 0) (k + 1) to)
-  clears_on {k} {to} g h = record { size = length-set l k 0 ∙ g.size; back = λ l' i. g.back l' (cleared_on l k to h l' i) }
-
-  pub clears_end : {k to : ℕ} → Going l₀ l First (Cleared l k to) → to ≤ k → First l
-  clears_end {k} {to} g h = g.back l (cleared_end l k to h)
-
-  pub inserts_on : {k n : ℕ} (base size : ℕ) → Going l₀ l First (Inserted l k n base size) → k < n → Going l₀ (set (set l (k + k) base) (k + k + 1) size) First
-      (Inserted (set (set l (k + k) base) (k + k + 1) size) (k + 1) n (get_or l (k + k) 0) (get_or l (k + k + 1) 0))
-  inserts_on {k} {n} base size g h = record {
-    size = length-set (set l (k + k) base) (k + k + 1) size ∙ length-set l (k + k) base ∙ g.size;
-    back = λ l' i. g.back l' (inserted_on l k n base size h l' i);
-  }
-
-  pub inserts_end : {k n : ℕ} (base size : ℕ) → Going l₀ l First (Inserted l k n base size) → n ≤ k → First (set (set l (k + k) base) (k + k + 1) size)
-  inserts_end {k} {n} base size g h = g.back (set (set l (k + k) base) (k + k + 1) size) (inserted_end l k n base size h)
-
-  pub slides_on : {f end : ℕ} (t : ℕ) → Going l₀ l First (Slid l t f end) → f < end
-      → Going l₀ (set (set l f 0) t (get_or l f 0)) First (Slid (set (set l f 0) t (get_or l f 0)) (t + 1) (f + 1) end)
-  slides_on {f} {end} t g h =
-      record { size = length-set (set l f 0) t (get_or l f 0) ∙ length-set l f 0 ∙ g.size; back = λ l' i. g.back l' (slid_on l t f end h l' i) }
-
-  pub slides_end : {f end : ℕ} (t : ℕ) → Going l₀ l First (Slid l t f end) → end ≤ f → First l
-  slides_end {f} {end} t g h = g.back l (slid_end l t f end h)
+pub slid_none : (l : List ℕ) (to from end : ℕ) → end ≤ from → Slid l to from end l
+unfolding Slid
+slid_none l to from end h a [] d g la lg lc e = e
+slid_none l to from end h a (x ∷ c) d g la lg lc e = absurd (omega arith)

@@ -45,15 +45,13 @@ pub fn good_table(slots: &[u64], n: usize) -> bool
         return false;
     }
     let mut least: u64 = 0;
-    let mut k: usize = 0;
-    while k < n {
+    for k in 0..n {
         let base = slots[k + k];
         let size = slots[k + k + 1];
         if !good_area(least, base, size) {
             return false;
         }
         least = base + size + 1;
-        k += 1;
     }
     true
 }
@@ -73,38 +71,24 @@ fn past(slots: &[u64], from: usize, n: usize, x: u64) -> usize
     requires { (from ≤ n) × (n + n ≤ length slots.now) }
     ensures { Past slots.now from n x result }
 {
-    let mut k = from;
-    while k < n {
+    for k in from..n {
         let base = slots[k + k];
         let size = slots[k + k + 1];
         if !ends_by(base, size, x) {
             return k;
         }
-        k += 1;
     }
-    k
+    n
 }
 
-// Puts an area into slot `at`, and moves the areas from there up to slot n one slot on. Each slot on the way is read before it is written:
-// its area is the one to put into the next.
+// Puts an area into slot `at`, and moves the areas from there up to slot n one slot on.
 fn insert_area(slots: &mut [u64], at: usize, n: usize, base: u64, size: u64)
     requires { (at ≤ n) × (n + n + 1 < length slots.old) }
     ensures { Inserted slots.old at n base size slots.new }
 {
-    let mut put_base = base;
-    let mut put_size = size;
-    let mut k = at;
-    while k < n {
-        let next_base = slots[k + k];
-        let next_size = slots[k + k + 1];
-        slots[k + k] = put_base;
-        slots[k + k + 1] = put_size;
-        put_base = next_base;
-        put_size = next_size;
-        k += 1;
-    }
-    slots[k + k] = put_base;
-    slots[k + k + 1] = put_size;
+    slots.copy_within(at + at..n + n, at + at + 2);
+    slots[at + at] = base;
+    slots[at + at + 1] = size;
 }
 
 // Zeros in the places from `from` up to `to`: the areas there are gone.
@@ -112,27 +96,19 @@ fn clear(l: &mut [u64], from: usize, to: usize)
     requires { to ≤ length l.old }
     ensures { Cleared l.old from to l.new }
 {
-    let mut k = from;
-    while k < to {
-        l[k] = 0;
-        k += 1;
+    if from < to {
+        l[from..to].fill(0);
     }
 }
 
-// Moves the numbers from place `from` up to `end` down to place `to`, over zeros, which go behind them. A place is zero before its number
-// is put where it goes: so the number stays where that is the same place.
+// Moves the numbers from place `from` up to `end` down to place `to`, over zeros, which go behind them.
 fn slide(l: &mut [u64], to: usize, from: usize, end: usize)
     requires { (to ≤ from) × (end ≤ length l.old) }
     ensures { Slid l.old to from end l.new }
 {
-    let mut t = to;
-    let mut f = from;
-    while f < end {
-        let x = l[f];
-        l[f] = 0;
-        l[t] = x;
-        t += 1;
-        f += 1;
+    if from < end {
+        l.copy_within(from..end, to);
+        l[end - (from - to)..end].fill(0);
     }
 }
 

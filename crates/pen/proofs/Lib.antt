@@ -1,3 +1,3 @@
 pub mod LengthLaws
 pub mod WritingLaws
-pub mod TurnLaws
+pub mod NumberLaws

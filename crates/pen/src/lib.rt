@@ -26,12 +26,9 @@ pub fn put(out: &mut [u8], at: usize, bytes: &[u8]) -> usize
     if !has_room(out.len(), at, bytes.len()) {
         return at;
     }
-    let mut i: usize = 0;
-    while i < bytes.len() {
-        out[at + i] = bytes[i];
-        i += 1;
-    }
-    at + i
+    let end = at + bytes.len();
+    out[at..end].copy_from_slice(bytes);
+    end
 }
 
 // The same, the last byte first.
@@ -41,12 +38,11 @@ pub fn put_turned(out: &mut [u8], at: usize, bytes: &[u8]) -> usize
     if !has_room(out.len(), at, bytes.len()) {
         return at;
     }
-    let mut i: usize = 0;
-    while i < bytes.len() {
-        out[at + i] = bytes[bytes.len() - 1 - i];
-        i += 1;
-    }
-    at + i
+    let end = at + bytes.len();
+    let part = &mut out[at..end];
+    part.copy_from_slice(bytes);
+    part.reverse();
+    end
 }
 
 // So many zero bytes.
@@ -56,44 +52,24 @@ pub fn put_zeros(out: &mut [u8], at: usize, n: usize) -> usize
     if !has_room(out.len(), at, n) {
         return at;
     }
-    let mut i: usize = 0;
-    while i < n {
-        out[at + i] = 0;
-        i += 1;
-    }
-    at + i
+    let end = at + n;
+    out[at..end].fill(0);
+    end
 }
 
 // A number in four bytes; of a larger one the lowest four.
 pub fn put32(out: &mut [u8], at: usize, w: usize) -> usize
     ensures { Put out.old at (bytes4 w) out.new result }
 {
-    let b = [
-        (w / 256 / 256 / 256 % 256) as u8,
-        (w / 256 / 256 % 256) as u8,
-        (w / 256 % 256) as u8,
-        (w % 256) as u8,
-    ];
-    put(out, at, &b)
+    let low = (w % 0x1_0000_0000) as u32;
+    put(out, at, &low.to_be_bytes())
 }
 
 // A number in eight bytes.
 pub fn put64(out: &mut [u8], at: usize, w: u64) -> usize
     ensures { Put out.old at (bytes8 w) out.new result }
 {
-    let high = w / 0x1_0000_0000;
-    let low = w % 0x1_0000_0000;
-    let b = [
-        (high / 256 / 256 / 256 % 256) as u8,
-        (high / 256 / 256 % 256) as u8,
-        (high / 256 % 256) as u8,
-        (high % 256) as u8,
-        (low / 256 / 256 / 256 % 256) as u8,
-        (low / 256 / 256 % 256) as u8,
-        (low / 256 % 256) as u8,
-        (low % 256) as u8,
-    ];
-    put(out, at, &b)
+    put(out, at, &w.to_be_bytes())
 }
 
 // Turns the bytes from a place on round: the last first.
@@ -103,14 +79,5 @@ pub fn turn_from(out: &mut [u8], from: usize)
     if out.len() < from {
         return;
     }
-    let mut lo = from;
-    let mut hi = out.len();
-    while lo + 1 < hi {
-        hi -= 1;
-        let a = out[lo];
-        let b = out[hi];
-        out[lo] = b;
-        out[hi] = a;
-        lo += 1;
-    }
+    out[from..].reverse();
 }

@@ -23,7 +23,7 @@ pub struct Tally {
 pub fn wide(x: u8) -> u64
     ensures { (result ≡ x) × (result < 256) }
 {
-    x as u64
+    u64::from(x)
 }
 
 // The number in the 8 bytes at a place, the lowest byte first, or 0 where the space does not have them.
@@ -36,10 +36,7 @@ pub fn word(space: &[u8], at: usize) -> u64
     if space.len() - 8 < at {
         return 0;
     }
-    let a = wide(space[at + 7]) * 256 + wide(space[at + 6]);
-    let b = (a * 256 + wide(space[at + 5])) * 256 + wide(space[at + 4]);
-    let c = (b * 256 + wide(space[at + 3])) * 256 + wide(space[at + 2]);
-    (c * 256 + wide(space[at + 1])) * 256 + wide(space[at])
+    words::le64(space, at)
 }
 
 // The place so many bytes further on, or the end of the space where that lies past it.
@@ -104,13 +101,8 @@ fn shift(space: &mut [u8], at: usize, have: usize) -> usize {
     if have < at {
         return 0;
     }
-    let n = have - at;
-    let mut i: usize = 0;
-    while i < n {
-        space[i] = space[at + i];
-        i += 1;
-    }
-    n
+    space.copy_within(at..have, 0);
+    have - at
 }
 
 // Fills the space behind its first `have` bytes from standard input, and answers how many there are then. A read that fails is told, and
@@ -152,11 +144,12 @@ pub fn fresh() -> Tally
 }
 
 // With one case more, and the part of it that differs, or 0.
+#[tactic(auto, unfolding(crate::specs::Cases::and_case))]
 pub fn counted(tally: Tally, part: u64) -> Tally
     ensures { result ≡ and_case tally part }
 {
     let mut t = tally;
-    t.cases = std::num::wrapping_add_u64(tally.cases, 1);
+    t.cases = tally.cases.wrapping_add(1);
     if part == 0 {
         return t;
     }
@@ -166,7 +159,7 @@ pub fn counted(tally: Tally, part: u64) -> Tally
         t.part = part;
         return t;
     }
-    t.differ = std::num::wrapping_add_u64(tally.differ, 1);
+    t.differ = tally.differ.wrapping_add(1);
     t
 }
 

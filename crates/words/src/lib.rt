@@ -10,7 +10,7 @@ fn byte(s: &[u8], at: usize) -> usize
     ensures { (result ≡ get_or s.now at 0) × (result < 256) }
 {
     if at < s.len() {
-        return s[at] as usize;
+        return usize::from(s[at]);
     }
     0
 }
@@ -65,21 +65,21 @@ pub fn le32(s: &[u8], at: usize) -> usize
     low + high * 65536
 }
 
-fn wide(x: u8) -> u64
-    ensures { (result ≡ x) × (result < 256) }
-{
-    x as u64
-}
-
 // The little-endian number in eight bytes that are all there: with no test between them they are read at once.
 fn le64_whole(s: &[u8], at: usize) -> u64
     requires { at + 8 ≤ length s.now }
     ensures { Eight s.now at result }
 {
-    let a = wide(s[at + 7]) * 256 + wide(s[at + 6]);
-    let b = (a * 256 + wide(s[at + 5])) * 256 + wide(s[at + 4]);
-    let c = (b * 256 + wide(s[at + 3])) * 256 + wide(s[at + 2]);
-    (c * 256 + wide(s[at + 1])) * 256 + wide(s[at])
+    u64::from_le_bytes([
+        s[at],
+        s[at + 1],
+        s[at + 2],
+        s[at + 3],
+        s[at + 4],
+        s[at + 5],
+        s[at + 6],
+        s[at + 7],
+    ])
 }
 
 // The little-endian number in the eight bytes at a place.

@@ -1,14 +1,9 @@
-use Rattle.lent_table.proofs.Moving.{goes, clears_on, clears_end}
+-- `lent_table::clear` meets its contract (Moving). Assumes nothing.
+use Rattle.lent_table.proofs.Moving.{cleared, cleared_none}
 use Rattle.lent_table.proofs.clear.Goals as goal
 
-pub loop-k-init : goal.loop-k-init
-loop-k-init c = goes _
+pub returns-then-from-to : goal.returns-then-from-to
+returns-then-from-to c = cleared _ _ _ _ c.if-from-to.true c.requires (c.fill.ensures.after (λ y e. e))
 
-pub loop-k-preserved : goal.loop-k-preserved
-loop-k-preserved c = clears_on c.loop-k.invariant c.loop-k-test.true
-
-pub shape_of-l : goal.shape_of-l
-shape_of-l c = c.loop-k.invariant.size
-
-pub returns : goal.returns
-returns c = clears_end c.loop-k.invariant c.loop-k-test.false
+pub returns-else-from-to : goal.returns-else-from-to
+returns-else-from-to c = cleared_none _ _ _ c.if-from-to.false

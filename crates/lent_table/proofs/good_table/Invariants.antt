@@ -1,10 +1,6 @@
--- `lent_table::good_table` meets its contract (Judging). The measure is what is left. Assumes nothing.
-use Prim.Native.Nat.{◌-◌}
+-- `lent_table::good_table` meets its contract (Judging). Assumes nothing.
 use Rattle.lent_table.proofs.Judging.{Judging}
 use Rattle.lent_table.proofs.good_table.Given as goal
 
 abbrev pub invariant-loop-k : goal.invariant-loop-k
 invariant-loop-k l = Judging 4096 l.n l.slots l.least l.k
-
-abbrev pub decreases-loop-k : goal.decreases-loop-k
-decreases-loop-k l = l.n - l.k

@@ -1,19 +1,9 @@
-use native.Mathlib.Omega.{arith}
-use lib.ListN.{length-set}
-use Rattle.lent_table.proofs.Moving.{goes, slides_on, slides_end}
+-- `lent_table::slide` meets its contract (Moving). Assumes nothing.
+use Rattle.lent_table.proofs.Moving.{slid, slid_none}
 use Rattle.lent_table.proofs.slide.Goals as goal
 
-pub loop-f-init : goal.loop-f-init
-loop-f-init c = (c.requires.0, goes _)
+pub returns-then-from-end : goal.returns-then-from-end
+returns-then-from-end c = slid _ _ _ _ _ _ c.requires.0 c.if-from-end.true c.requires.1 c.copy_within.ensures.len c.copy_within.ensures.after (c.fill.ensures.after (λ y e. e))
 
-pub bounds-l-t : goal.bounds-l-t
-bounds-l-t c = simp length-set (omega arith)
-
-pub loop-f-preserved : goal.loop-f-preserved
-loop-f-preserved c = (omega arith, slides_on _ c.loop-f.invariant.1 c.loop-f-test.true)
-
-pub shape_of-l : goal.shape_of-l
-shape_of-l c = c.loop-f.invariant.1.size
-
-pub returns : goal.returns
-returns c = slides_end _ c.loop-f.invariant.1 c.loop-f-test.false
+pub returns-else-from-end : goal.returns-else-from-end
+returns-else-from-end c = slid_none _ _ _ _ c.if-from-end.false

@@ -1,7 +1,6 @@
 -- `pen::put32` meets its contract: its four bytes are put. Assumes nothing.
-use Rattle.pen.specs.Numbers.{bytes4}
+use Rattle.pen.proofs.NumberLaws.{low_bytes}
 use Rattle.pen.proofs.put32.Goals as goal
 
 pub returns : goal.returns
-unfolding bytes4
-returns c = c.put.ensures
+returns c = rw (c.to_be_bytes.ensures, low_bytes) at c.put.ensures
