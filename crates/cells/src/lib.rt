@@ -45,13 +45,6 @@ pub enum RangeRow {
     RangeAt(Range),
 }
 
-// A string value: where it ends, or that no zero byte ends it.
-#[derive(Clone, Copy)]
-pub enum StringValue {
-    Ends(usize),
-    Endless,
-}
-
 // The count that the value of a cell property states.
 pub fn stated(v: &[u8]) -> CellCount
     ensures { result ≡ stated_by v.now }
@@ -164,13 +157,13 @@ pub fn range_row(
     })
 }
 
-// Where a string value ends.
-pub fn text(v: &[u8]) -> StringValue
+// Where a string value ends; nothing where no zero byte ends it.
+pub fn text(v: &[u8]) -> Option<usize>
     ensures { result ≡ text_of v.now }
 {
     let end = words::byte_from(v, 0, 0);
     if end < v.len() {
-        return StringValue::Ends(end);
+        return Some(end);
     }
-    StringValue::Endless
+    None
 }

@@ -9,22 +9,23 @@ use Rattle.words.specs.Bytes.{part_of}
 use Rattle.fdt.specs.Header.{totalsize, good_header, structure_of, strings_of}
 use Rattle.fdt.specs.Walk.{walked}
 use Rattle.fdt.specs.Opening.{blocks_of, judged, opened_of}
-use Rattle.fdt.specs.declared.Verdict.{Verdict}
 use Rattle.fdt.specs.declared.Blocks.{Blocks}
-use Rattle.fdt.specs.declared.Opened.TheVariants.{NoTree, BadHeader, OverLimit}
+use Rattle.std.specs.Prelude.{None, Result, Ok, Err}
+use Rattle.fdt.specs.declared.TreeFault.{TreeFault}
+use Rattle.fdt.specs.declared.TreeFault.TheVariants.{BadHeader, OverLimit}
 
 module _ (s : List ℕ) where
-  pub says_none : length s ≡ 0 → NoTree ≡ opened_of s
+  pub says_none : length s ≡ 0 → Ok None ≡ opened_of s
   unfolding opened_of
   says_none h = rw (eq-eqb _ _ h)
 
   module _ (some : length s ≡ 0 → ⊥) where
-    pub says_header : good_header s ≡ false → BadHeader ≡ opened_of s
+    pub says_header : good_header s ≡ false → Err BadHeader ≡ opened_of s
     unfolding opened_of
     says_header h = rw (ne_eqb _ _ some, h)
 
     module _ (good : good_header s ≡ true) where
-      pub says_large : 1048576 < totalsize s → OverLimit ≡ opened_of s
+      pub says_large : 1048576 < totalsize s → Err OverLimit ≡ opened_of s
       unfolding opened_of
       says_large h = rw (ne_eqb _ _ some, good, lt-leb _ _ h)
 
@@ -33,7 +34,7 @@ module _ (s : List ℕ) where
       says_walked h = rw (ne_eqb _ _ some, good, le-leb _ _ h)
 
       -- the same of what the code has in hand
-      pub says_judged : (k : Blocks) (b n : List ℕ) (v w : Verdict) → totalsize s ≤ 1048576 → k ≡ blocks_of s
+      pub says_judged : (k : Blocks) (b n : List ℕ) (v w : Result Unit TreeFault) → totalsize s ≤ 1048576 → k ≡ blocks_of s
           → b ≡ part_of s k.structure.at k.structure.len → n ≡ part_of s k.strings.at k.strings.len
           → v ≡ walked b n → v ≡ w → judged w k ≡ opened_of s
       unfolding blocks_of

@@ -9,12 +9,13 @@ use Rattle.fdt.specs.Token.{tok_at}
 use Rattle.fdt.specs.Walk.{begin_step, step_of, walk_at}
 use Rattle.fdt.specs.declared.Token.{Token}
 use Rattle.fdt.specs.declared.Token.TheVariants.{Bad, Nop, Begin, EndNode, Prop, Fin}
-use Rattle.fdt.specs.declared.Verdict.{Verdict}
 use Rattle.fdt.specs.declared.State.{State}
 use Rattle.fdt.specs.declared.Step.{Step}
 use Rattle.fdt.specs.declared.Step.TheVariants.{Go, Stop}
 use Rattle.words.proofs.BytesLaws.{cond_elim}
 use Rattle.fdt.proofs.TokLaws.{Ahead, ahead}
+use Rattle.std.specs.Prelude.{Result}
+use Rattle.fdt.specs.declared.TreeFault.{TreeFault}
 
 -- the state after a step from p stands past it
 abbrev Moves : ℕ → ℕ → Step → Type 0
@@ -56,6 +57,6 @@ module _ (b n : List ℕ) (st : State) where
         let q : f ≡ suc (f - 1) = omega arith in
         (f - 1, omega arith, rw h (ap (λ (x : ℕ). walk_at x b n next) q))
 
-  pub step_off : (f : ℕ) (v : Verdict) → step_of st (tok_at b n st.at) ≡ Stop v → walk_at (suc f) b n st ≡ v
+  pub step_off : (f : ℕ) (v : Result Unit TreeFault) → step_of st (tok_at b n st.at) ≡ Stop v → walk_at (suc f) b n st ≡ v
   unfolding walk_at
   step_off f v h = rw h

@@ -5,7 +5,9 @@ ghost use Rattle.std.specs.Prelude.{◌≡◌, ◌+◌, ◌≤◌, ◌<◌, leng
 ghost use Rattle.fdt.specs.Header.{good_header};
 ghost use Rattle.fdt.specs.Token.{prop_at, tok_at};
 ghost use Rattle.fdt.specs.Walk.{begin_step, step_of, walked};
-ghost use Rattle.fdt.specs.Opening.{opened_number, blocks_of, opened_of};
+ghost use Rattle.fdt.specs.Opening.{fault_number, blocks_of, opened_of};
+
+use numbers::Numbered;
 
 // One token of the structure block, with the place of what follows it.
 #[derive(Clone, Copy)]
@@ -22,12 +24,24 @@ pub enum Token {
     Fin,
 }
 
-// What the walk over a structure block says of it.
+// What a tree is refused for, by its form.
 #[derive(Clone, Copy)]
-pub enum Verdict {
-    Accepted,
-    Broken,
-    Over,
+pub enum TreeFault {
+    BadHeader,
+    OverLimit,
+    BadStructure,
+}
+
+impl Numbered for TreeFault {
+    ghost number_of = { fault_number };
+
+    fn number(self) -> u8 {
+        match self {
+            TreeFault::BadHeader => 4,
+            TreeFault::OverLimit => 6,
+            TreeFault::BadStructure => 5,
+        }
+    }
 }
 
 // Where the walk stands: the next token's place, the open nodes, the nodes begun, and whether a property may stand here.
@@ -39,13 +53,14 @@ pub struct State {
     pub props: bool,
 }
 
+// A step of the walk: on from a state; or the end, with what the walk says of the block.
 #[derive(Clone, Copy)]
 pub enum Step {
     Go(State),
-    Stop(Verdict),
+    Stop(Result<(), TreeFault>),
 }
 
-// Where a block stands in a tree's bytes, and how long it is.
+// Where a part stands in some bytes, and how long it is: a block of a tree, or a property's value in the structure block.
 #[derive(Clone, Copy)]
 pub struct Block {
     pub at: usize,
@@ -58,30 +73,6 @@ pub struct Blocks {
     pub structure: Block,
     pub strings: Block,
     pub reservations: usize,
-}
-
-// What opening a tree answers.
-#[derive(Clone, Copy)]
-pub enum Opened {
-    NoTree,
-    Tree(Blocks),
-    BadHeader,
-    OverLimit,
-    BadStructure,
-}
-
-impl Opened {
-    pub fn number(self) -> u8
-        ensures { result ≡ opened_number self }
-    {
-        match self {
-            Opened::NoTree => 0,
-            Opened::Tree(_) => 0,
-            Opened::BadHeader => 4,
-            Opened::OverLimit => 6,
-            Opened::BadStructure => 5,
-        }
-    }
 }
 
 // A property token at p, of which the structure block has the four bytes.
@@ -144,10 +135,10 @@ fn begun(st: State, len: usize, next: usize) -> Step
     let nodes = st.nodes;
     if depth == 0 {
         if nodes != 0 {
-            return Step::Stop(Verdict::Broken);
+            return Step::Stop(Err(TreeFault::BadStructure));
         }
         if len != 0 {
-            return Step::Stop(Verdict::Broken);
+            return Step::Stop(Err(TreeFault::BadStructure));
         }
         return Step::Go(State {
             at: next,
@@ -157,10 +148,10 @@ fn begun(st: State, len: usize, next: usize) -> Step
         });
     }
     if 32 <= depth {
-        return Step::Stop(Verdict::Over);
+        return Step::Stop(Err(TreeFault::OverLimit));
     }
     if 4096 <= nodes {
-        return Step::Stop(Verdict::Over);
+        return Step::Stop(Err(TreeFault::OverLimit));
     }
     Step::Go(State {
         at: next,
@@ -178,7 +169,7 @@ fn stepped(st: State, t: Token) -> Step
     let nodes = st.nodes;
     let props = st.props;
     match t {
-        Token::Bad => Step::Stop(Verdict::Broken),
+        Token::Bad => Step::Stop(Err(TreeFault::BadStructure)),
         Token::Nop(next) => Step::Go(State {
             at: next,
             depth,
@@ -188,7 +179,7 @@ fn stepped(st: State, t: Token) -> Step
         Token::Begin(len, next) => begun(st, len, next),
         Token::EndNode(next) => {
             if depth == 0 {
-                return Step::Stop(Verdict::Broken);
+                return Step::Stop(Err(TreeFault::BadStructure));
             }
             Step::Go(State {
                 at: next,
@@ -206,22 +197,22 @@ fn stepped(st: State, t: Token) -> Step
                     props: true,
                 });
             }
-            Step::Stop(Verdict::Broken)
+            Step::Stop(Err(TreeFault::BadStructure))
         }
         Token::Fin => {
             if depth != 0 {
-                return Step::Stop(Verdict::Broken);
+                return Step::Stop(Err(TreeFault::BadStructure));
             }
             if nodes == 0 {
-                return Step::Stop(Verdict::Broken);
+                return Step::Stop(Err(TreeFault::BadStructure));
             }
-            Step::Stop(Verdict::Accepted)
+            Step::Stop(Ok(()))
         }
     }
 }
 
 // The walk over a structure block: one pass, no table.
-fn walk<'a>(structure: &'a [u8], strings: &'a [u8]) -> Verdict
+fn walk<'a>(structure: &'a [u8], strings: &'a [u8]) -> Result<(), TreeFault>
     ensures { result ≡ walked structure.now strings.now }
 {
     let mut st = State {
@@ -236,8 +227,8 @@ fn walk<'a>(structure: &'a [u8], strings: &'a [u8]) -> Verdict
             Step::Go(next) => {
                 st = next;
             }
-            Step::Stop(v) => {
-                return v;
+            Step::Stop(verdict) => {
+                return verdict;
             }
         }
     }
@@ -303,25 +294,22 @@ fn blocks_of(s: &[u8]) -> Blocks
     }
 }
 
-// Opens a tree: the header, its size, and then the structure block.
-pub fn open_tree(s: &[u8]) -> Opened
+// Opens a tree: the header, its size, and then the structure block. No bytes are no tree.
+pub fn open_tree(s: &[u8]) -> Result<Option<Blocks>, TreeFault>
     ensures { result ≡ opened_of s.now }
 {
     if s.len() == 0 {
-        return Opened::NoTree;
+        return Ok(None);
     }
     if !good_header(s) {
-        return Opened::BadHeader;
+        return Err(TreeFault::BadHeader);
     }
     if 1048576 < words::be32(s, 4) {
-        return Opened::OverLimit;
+        return Err(TreeFault::OverLimit);
     }
     let found = blocks_of(s);
     let b = found.structure;
     let n = found.strings;
-    match walk(words::part(s, b.at, b.len), words::part(s, n.at, n.len)) {
-        Verdict::Accepted => Opened::Tree(found),
-        Verdict::Broken => Opened::BadStructure,
-        Verdict::Over => Opened::OverLimit,
-    }
+    walk(words::part(s, b.at, b.len), words::part(s, n.at, n.len))?;
+    Ok(Some(found))
 }

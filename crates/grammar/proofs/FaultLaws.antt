@@ -14,8 +14,6 @@ use Rattle.fdt.specs.Walk.{walked}
 use Rattle.fdt.specs.Grammar.{Nops, no_nop, a_nop, Props, no_prop, a_prop, Kids, no_kid, a_kid, Block, Within}
 use Rattle.fdt.specs.declared.Token.{Token}
 use Rattle.fdt.specs.declared.Token.TheVariants.{Bad, Nop, Begin, EndNode, Prop, Fin}
-use Rattle.fdt.specs.declared.Verdict.{Verdict}
-use Rattle.fdt.specs.declared.Verdict.TheVariants.{Accepted, Broken, Over}
 use Rattle.words.proofs.BytesLaws.{bytes_long}
 use Rattle.fdt.proofs.TokLaws.{ahead_of, reach_of}
 use Rattle.fdt.proofs.LexLaws.{lex_of}
@@ -23,15 +21,19 @@ use Rattle.grammar.specs.Faults.{Begins, BeginsWithin, Upto, start, past_nop, pa
 use Rattle.grammar.proofs.TreeLaws.{run_l, run_t, walked_run}
 use Rattle.grammar.proofs.GrammarLaws.{tokens_are, block_of, accepted_exactly, one_block}
 use Rattle.grammar.proofs.TurnLaws.{Sane, Why, AtLimit, Turn, goes, breaks, exceeds, begin_raised, begin_over, turn_begin, turn_end, turn_prop, fin_way, refused, as_given, Comes, come_next, come_within, come_whole, come_none, come_over, come_fits, comes_first, begins_less, within_less, comparable, shorter, end_form}
+use Rattle.std.specs.Prelude.{Result, Ok, Err}
+use Rattle.fdt.specs.declared.TreeFault.{TreeFault}
+use Rattle.fdt.specs.declared.TreeFault.TheVariants.{BadHeader, OverLimit, BadStructure}
 
 module _ (b n : List ℕ) where
   abbrev L : ℕ → List Tok
   L p = lex_at b n p
 
-  abbrev Outcome : Verdict → Type 0
-  Outcome Accepted = Whole b n
-  Outcome Broken = Faulty b n
-  Outcome Over = Exceeds b n
+  abbrev Outcome : Result Unit TreeFault → Type 0
+  Outcome (Ok _) = Whole b n
+  Outcome (Err BadHeader) = ⊥
+  Outcome (Err BadStructure) = Faulty b n
+  Outcome (Err OverLimit) = Exceeds b n
 
   module _ (p : ℕ) (ts : List Tok) (d c : ℕ) (a : Bool) (u : Upto b n p ts) (k : Comes ts d c a) where
     module _ (t : Tok) (is : here b n p ≡ t ∷ []) where
@@ -88,8 +90,12 @@ module _ (b n : List ℕ) where
   outcome_within zero p ts d c a e u k = outcome_step p ts d c a u k (tok_at b n p) refl (λ q us i m o x y v j. let w : ⊥ = omega arith in absurd w)
   outcome_within (suc f) p ts d c a e u k = outcome_step p ts d c a u k (tok_at b n p) refl (λ q us i m o x y v j. outcome_within f q us i m o (omega arith) v j)
 
-  outcome : (v : Verdict) → walked b n ≡ v → Outcome v
+  outcome : (v : Result Unit TreeFault) → walked b n ≡ v → Outcome v
   outcome v e = subst Outcome (sym (walked_run b n) ∙ e) (outcome_within (length b) 0 [] 0 0 false (omega arith) start comes_first)
+
+  -- the header is none of the walk's matters
+  pub no_header : walked b n ≡ Err BadHeader → ⊥
+  no_header = outcome (Err BadHeader)
 
   -- ── Both are tokens that the block has ──
 
@@ -190,24 +196,26 @@ module _ (b n : List ℕ) where
       (comparable _ _ x.0 y.0 both)
 
   -- THE NUMBERS OF THE WALK
-  broken_if : Faulty b n → walked b n ≡ Broken
+  broken_if : Faulty b n → walked b n ≡ Err BadStructure
   broken_if f = go (walked b n) refl
     where
-      go : (v : Verdict) → walked b n ≡ v → walked b n ≡ Broken
-      go Accepted h = absurd (f.fault (block_begins ((accepted_exactly b n).0 h).block f.upto))
-      go Broken h = h
-      go Over h = absurd (never_both f (outcome Over h))
+      go : (v : Result Unit TreeFault) → walked b n ≡ v → walked b n ≡ Err BadStructure
+      go (Ok _) h = absurd (f.fault (block_begins ((accepted_exactly b n).0 h).block f.upto))
+      go (Err BadHeader) h = absurd (outcome (Err BadHeader) h)
+      go (Err BadStructure) h = h
+      go (Err OverLimit) h = absurd (never_both f (outcome (Err OverLimit) h))
 
-  over_if : Exceeds b n → walked b n ≡ Over
+  over_if : Exceeds b n → walked b n ≡ Err OverLimit
   unfolding block_begins
   over_if e = go (walked b n) refl
     where
-      go : (v : Verdict) → walked b n ≡ v → walked b n ≡ Over
-      go Accepted h =
+      go : (v : Result Unit TreeFault) → walked b n ≡ v → walked b n ≡ Err OverLimit
+      go (Ok _) h =
           let w = (accepted_exactly b n).0 h in
           absurd (e.over (record { begins = block_begins w.block e.upto; within = w.within }))
-      go Broken h = absurd (never_both (outcome Broken h) e)
-      go Over h = h
+      go (Err BadHeader) h = absurd (outcome (Err BadHeader) h)
+      go (Err BadStructure) h = absurd (never_both (outcome (Err BadStructure) h) e)
+      go (Err OverLimit) h = h
 
   -- the tokens of a whole block end with FDT_END
   whole_lex : (w : Whole b n) → L 0 ≡ w.before ++ here b n w.at
@@ -219,44 +227,47 @@ module _ (b n : List ℕ) where
       let k = upto_here u in
       within_less b n (ts ++ here b n p) k.0 (subst (BeginsWithin b n) (sym (whole_lex w) ∙ k.1) w.sound)
 
-  whole_if : Whole b n → walked b n ≡ Accepted
+  whole_if : Whole b n → walked b n ≡ Ok tt
   whole_if w = go (walked b n) refl
     where
-      go : (v : Verdict) → walked b n ≡ v → walked b n ≡ Accepted
-      go Accepted h = h
-      go Broken h = let f = outcome Broken h in absurd (f.fault (whole_within w f.upto).begins)
-      go Over h = let f = outcome Over h in absurd (f.over (whole_within w f.upto))
+      go : (v : Result Unit TreeFault) → walked b n ≡ v → walked b n ≡ Ok tt
+      go (Ok _) h = h
+      go (Err BadHeader) h = absurd (outcome (Err BadHeader) h)
+      go (Err BadStructure) h = let f = outcome (Err BadStructure) h in absurd (f.fault (whole_within w f.upto).begins)
+      go (Err OverLimit) h = let f = outcome (Err OverLimit) h in absurd (f.over (whole_within w f.upto))
 
-  pub whole_exactly : (walked b n ≡ Accepted) ↔ Whole b n
-  whole_exactly = (outcome Accepted, whole_if)
+  pub whole_exactly : (walked b n ≡ Ok tt) ↔ Whole b n
+  whole_exactly = (outcome (Ok tt), whole_if)
 
-  pub broken_exactly : (walked b n ≡ Broken) ↔ Faulty b n
-  broken_exactly = (outcome Broken, broken_if)
+  pub broken_exactly : (walked b n ≡ Err BadStructure) ↔ Faulty b n
+  broken_exactly = (outcome (Err BadStructure), broken_if)
 
-  pub exceeds_exactly : (walked b n ≡ Over) ↔ Exceeds b n
-  exceeds_exactly = (outcome Over, over_if)
+  pub exceeds_exactly : (walked b n ≡ Err OverLimit) ↔ Exceeds b n
+  exceeds_exactly = (outcome (Err OverLimit), over_if)
 
   -- a block in the grammar that is not within the limits gives 6, and never 5
-  pub grammar_over : (root : ℕ) (ps : List Property) (kids : Nodes) → Block b n root ps kids → (Within b n kids → ⊥) → walked b n ≡ Over
+  pub grammar_over : (root : ℕ) (ps : List Property) (kids : Nodes) → Block b n root ps kids → (Within b n kids → ⊥) → walked b n ≡ Err OverLimit
   grammar_over root ps kids k h = go (walked b n) refl
     where
-      go : (v : Verdict) → walked b n ≡ v → walked b n ≡ Over
-      go Accepted e =
+      go : (v : Result Unit TreeFault) → walked b n ≡ v → walked b n ≡ Err OverLimit
+      go (Ok _) e =
           let w = (accepted_exactly b n).0 e in
           let q = one_block b n w.root root w.ps ps w.kids kids w.block k in
           absurd (h (subst (Within b n) q.2 w.within))
-      go Broken e = let f = outcome Broken e in absurd (f.fault (block_begins k f.upto))
-      go Over e = e
+      go (Err BadHeader) e = absurd (outcome (Err BadHeader) e)
+      go (Err BadStructure) e = let f = outcome (Err BadStructure) e in absurd (f.fault (block_begins k f.upto))
+      go (Err OverLimit) e = e
 
   -- a block not in the grammar gives 5, where all that is in order in it is within the limits
   pub no_grammar_broken : ((root : ℕ) (ps : List Property) (kids : Nodes) → Block b n root ps kids → ⊥)
-      → ((p : ℕ) (ts : List Tok) → Upto b n p ts → Begins (ts ++ here b n p) → BeginsWithin b n (ts ++ here b n p)) → walked b n ≡ Broken
+      → ((p : ℕ) (ts : List Tok) → Upto b n p ts → Begins (ts ++ here b n p) → BeginsWithin b n (ts ++ here b n p)) → walked b n ≡ Err BadStructure
   no_grammar_broken h g = go (walked b n) refl
     where
-      go : (v : Verdict) → walked b n ≡ v → walked b n ≡ Broken
-      go Accepted e = let w = (accepted_exactly b n).0 e in absurd (h w.root w.ps w.kids w.block)
-      go Broken e = e
-      go Over e = let f = outcome Over e in absurd (f.over (g f.at f.before f.upto f.fits))
+      go : (v : Result Unit TreeFault) → walked b n ≡ v → walked b n ≡ Err BadStructure
+      go (Ok _) e = let w = (accepted_exactly b n).0 e in absurd (h w.root w.ps w.kids w.block)
+      go (Err BadHeader) e = absurd (outcome (Err BadHeader) e)
+      go (Err BadStructure) e = e
+      go (Err OverLimit) e = let f = outcome (Err OverLimit) e in absurd (f.over (g f.at f.before f.upto f.fits))
 
   -- ── The limits counted ──
 

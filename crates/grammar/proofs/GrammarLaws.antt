@@ -14,12 +14,12 @@ use Rattle.fdt.specs.Walk.{walked}
 use Rattle.fdt.specs.Grammar.{Nops, no_nop, a_nop, Props, no_prop, a_prop, Kids, no_kid, a_kid, Block}
 use Rattle.fdt.specs.declared.Token.{Token}
 use Rattle.fdt.specs.declared.Token.TheVariants.{Bad, Nop, Begin, EndNode, Prop, Fin}
-use Rattle.fdt.specs.declared.Verdict.TheVariants.{Accepted}
 use Rattle.words.proofs.BytesLaws.{never}
 use Rattle.fdt.proofs.TokLaws.{ahead_of}
 use Rattle.fdt.proofs.LexLaws.{lex_of}
 use Rattle.grammar.specs.Written.{Written}
 use Rattle.grammar.proofs.TreeLaws.{run_t, walked_run, accepted_tree, tree_accepted, levels_tree}
+use Rattle.std.specs.Prelude.{Ok}
 
 abbrev NotNop : Token → Type 0
 NotNop Bad = Unit {0}
@@ -151,17 +151,17 @@ module _ (b n : List ℕ) where
     tree_is k = ap (λ (x : List Tok). top (levels x)) (tokens_are k) ∙ ap top (levels_tree (node root [] ps kids none))
 
   -- ACCEPTED EXACTLY WHEN IT IS WRITTEN
-  written : walked b n ≡ Accepted → Written b n
+  written : walked b n ≡ Ok tt → Written b n
   written h =
       let r = accepted_tree 32 4096 (omega arith) (omega arith) (lex_at b n 0) (sym (walked_run b n) ∙ h) in
       record { root = r.0; ps = r.1; kids = r.2; block = block_of r.0 r.1 r.2 r.3; within = record { levels = r.4; nodes = r.5 } }
 
-  accepted : Written b n → walked b n ≡ Accepted
+  accepted : Written b n → walked b n ≡ Ok tt
   accepted w =
       walked_run b n ∙ ap (λ (x : List Tok). run_t x 0 0 false) (tokens_are w.root w.ps w.kids w.block)
       ∙ tree_accepted 32 4096 w.root w.ps w.kids w.within.levels w.within.nodes
 
-  pub accepted_exactly : (walked b n ≡ Accepted) ↔ Written b n
+  pub accepted_exactly : (walked b n ≡ Ok tt) ↔ Written b n
   accepted_exactly = (written, accepted)
 
   -- OF ONE TREE ALONE

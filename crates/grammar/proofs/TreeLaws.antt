@@ -16,37 +16,38 @@ use Rattle.fdt.specs.declared.Token.{Token}
 use Rattle.fdt.specs.declared.Token.TheVariants.{Bad, Nop, Begin, EndNode, Prop, Fin}
 use Rattle.fdt.specs.declared.State.{State}
 use Rattle.fdt.specs.declared.Step.{Step}
-use Rattle.fdt.specs.declared.Verdict.{Verdict}
-use Rattle.fdt.specs.declared.Verdict.TheVariants.{Accepted, Broken, Over}
 use Rattle.words.proofs.BytesLaws.{never, bytes_long}
 use Rattle.fdt.proofs.TokLaws.{Reach, reach}
+use Rattle.std.specs.Prelude.{Result, Ok, Err}
+use Rattle.fdt.specs.declared.TreeFault.{TreeFault}
+use Rattle.fdt.specs.declared.TreeFault.TheVariants.{OverLimit, BadStructure}
 
 -- the walk on tokens that are read already, with at most lv levels and nd nodes
-unfoldable pub run_l : ℕ → ℕ → List Tok → ℕ → ℕ → Bool → Verdict
-run_l lv nd [] d n a = Broken
-run_l lv nd (begin p nm ∷ ts) zero n a = cond (eqb n 0) (cond (eqb (length nm) 0) (run_l lv nd ts 1 1 true) Broken) Broken
-run_l lv nd (begin p nm ∷ ts) (suc d) n a = cond (leb lv (suc d)) Over (cond (leb nd n) Over (run_l lv nd ts (suc (suc d)) (suc n) true))
-run_l lv nd (ended ∷ ts) zero n a = Broken
+unfoldable pub run_l : ℕ → ℕ → List Tok → ℕ → ℕ → Bool → Result Unit TreeFault
+run_l lv nd [] d n a = Err BadStructure
+run_l lv nd (begin p nm ∷ ts) zero n a = cond (eqb n 0) (cond (eqb (length nm) 0) (run_l lv nd ts 1 1 true) (Err BadStructure)) (Err BadStructure)
+run_l lv nd (begin p nm ∷ ts) (suc d) n a = cond (leb lv (suc d)) (Err OverLimit) (cond (leb nd n) (Err OverLimit) (run_l lv nd ts (suc (suc d)) (suc n) true))
+run_l lv nd (ended ∷ ts) zero n a = Err BadStructure
 run_l lv nd (ended ∷ ts) (suc d) n a = run_l lv nd ts d n false
-run_l lv nd (prop q ∷ ts) d n a = cond a (run_l lv nd ts d n true) Broken
-run_l lv nd (fin ∷ []) zero n a = cond (eqb n 0) Broken Accepted
-run_l lv nd (fin ∷ []) (suc d) n a = Broken
-run_l lv nd (fin ∷ t ∷ ts) d n a = Broken
-run_l lv nd (bad ∷ ts) d n a = Broken
+run_l lv nd (prop q ∷ ts) d n a = cond a (run_l lv nd ts d n true) (Err BadStructure)
+run_l lv nd (fin ∷ []) zero n a = cond (eqb n 0) (Err BadStructure) (Ok tt)
+run_l lv nd (fin ∷ []) (suc d) n a = Err BadStructure
+run_l lv nd (fin ∷ t ∷ ts) d n a = Err BadStructure
+run_l lv nd (bad ∷ ts) d n a = Err BadStructure
 
 -- with those of document 01
-abbrev pub run_t : List Tok → ℕ → ℕ → Bool → Verdict
+abbrev pub run_t : List Tok → ℕ → ℕ → Bool → Result Unit TreeFault
 run_t ts d n a = run_l 32 4096 ts d n a
 
-no_broken : {A : Type 0} → Broken ≡ Accepted → A
+no_broken : {A : Type 0} → ◌≡◌ {A = Result Unit TreeFault} (Err BadStructure) (Ok tt) → A
 no_broken e = never (cc)
 
 -- a test that was accepted went one way
-pub went_left : (t : Bool) (v : Verdict) → cond t v Broken ≡ Accepted → (t ≡ true) × (v ≡ Accepted)
+pub went_left : (t : Bool) (v : Result Unit TreeFault) → cond t v (Err BadStructure) ≡ Ok tt → (t ≡ true) × (v ≡ Ok tt)
 went_left true v h = (refl, h)
 went_left false v h = never (cc)
 
-pub went_right : (t : Bool) (v : Verdict) → cond t Over v ≡ Accepted → (t ≡ false) × (v ≡ Accepted)
+pub went_right : (t : Bool) (v : Result Unit TreeFault) → cond t (Err OverLimit) v ≡ Ok tt → (t ≡ false) × (v ≡ Ok tt)
 went_right true v h = never (cc)
 went_right false v h = (refl, h)
 
@@ -101,7 +102,7 @@ module _ (lv nd : ℕ) where
         subst (λ (x : ℕ). Closes d x false j.2) q j.7,
       )
 
-  closes : (ts : List Tok) (d n : ℕ) (a : Bool) → d ≤ lv → n ≤ nd → 0 < n → (d ≡ 0 → a ≡ false) → run_l lv nd ts d n a ≡ Accepted → Closes d n a ts
+  closes : (ts : List Tok) (d n : ℕ) (a : Bool) → d ≤ lv → n ≤ nd → 0 < n → (d ≡ 0 → a ≡ false) → run_l lv nd ts d n a ≡ Ok tt → Closes d n a ts
   unfolding run_l
   closes [] d n a hd hn h0 hf e = no_broken e
   closes (begin p nm ∷ ts) zero n a hd hn h0 hf e =
@@ -135,7 +136,7 @@ module _ (lv nd : ℕ) where
   closes (bad ∷ ts) d n a hd hn h0 hf e = no_broken e
 
   -- what the walk accepts is the tree's tokens
-  pub accepted_tree : 1 ≤ lv → 1 ≤ nd → (ts : List Tok) → run_l lv nd ts 0 0 false ≡ Accepted
+  pub accepted_tree : 1 ≤ lv → 1 ≤ nd → (ts : List Tok) → run_l lv nd ts 0 0 false ≡ Ok tt
       → (p : ℕ) × (ps : List Property) × (ks : Nodes) × (ts ≡ flat_k (node p [] ps ks none) (fin ∷ [])) × (suc (height ks) ≤ lv) × (suc (count ks) ≤ nd)
   unfolding run_l
   accepted_tree hl hn [] e = no_broken e
@@ -159,7 +160,7 @@ module _ (lv nd : ℕ) where
   accepted_tree hl hn (bad ∷ ts) e = no_broken e
 
   -- and a tree's tokens are accepted
-  pub tree_accepted : (p : ℕ) (ps : List Property) (ks : Nodes) → suc (height ks) ≤ lv → suc (count ks) ≤ nd → run_l lv nd (flat_k (node p [] ps ks none) (fin ∷ [])) 0 0 false ≡ Accepted
+  pub tree_accepted : (p : ℕ) (ps : List Property) (ks : Nodes) → suc (height ks) ≤ lv → suc (count ks) ≤ nd → run_l lv nd (flat_k (node p [] ps ks none) (fin ∷ [])) 0 0 false ≡ Ok tt
   unfolding run_l
   tree_accepted p ps ks h c =
       let n0 : 1 + count ks ≡ 0 → ⊥ = λ q. omega arith in
@@ -167,11 +168,11 @@ module _ (lv nd : ℕ) where
 
 -- ── The walk on bytes is the walk on the tokens that are read from them ──
 
-after_cond : (t : Bool) (x y : Step) (k : State → Verdict) (v w : Verdict) → after x k ≡ v → after y k ≡ w → after (cond t x y) k ≡ cond t v w
+after_cond : (t : Bool) (x y : Step) (k : State → Result Unit TreeFault) (v w : Result Unit TreeFault) → after x k ≡ v → after y k ≡ w → after (cond t x y) k ≡ cond t v w
 after_cond true x y k v w p q = p
 after_cond false x y k v w p q = q
 
-module _ (b n : List ℕ) (p : ℕ) (k : State → Verdict) (j : ℕ → List Tok) (h : (st : State) → k st ≡ run_t (j st.at) st.depth st.nodes st.props) where
+module _ (b n : List ℕ) (p : ℕ) (k : State → Result Unit TreeFault) (j : ℕ → List Tok) (h : (st : State) → k st ≡ run_t (j st.at) st.depth st.nodes st.props) where
   step_run : (t : Token) (d c : ℕ) (a : Bool) → Reach p (length b) (length n) t → after (step_of (state p d c a) t) k ≡ run_t (taken b n p t j) d c a
   unfolding step_of begin_step run_l
   step_run Bad d c a m = refl

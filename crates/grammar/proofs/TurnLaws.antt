@@ -10,10 +10,13 @@ use lib.ListN.{length}
 use lib.Dec.{leb, eqb}
 use borrow.Author.Tests.{leb-true, leb-false, eqb-true, eqb-false, le-leb, lt-leb, ne_eqb}
 use Rattle.fdt.specs.Tree.{Property, none, node, Tok, begin, ended, prop, fin, bad, flat_k, count, height}
-use Rattle.fdt.specs.declared.Verdict.TheVariants.{Accepted, Broken, Over}
 use Rattle.words.proofs.BytesLaws.{never}
 use Rattle.grammar.specs.Faults.{Begins, BeginsWithin, begun, closed, ChildLast}
 use Rattle.grammar.proofs.TreeLaws.{run_l, run_t, went_left, went_right, accepted_tree, tree_accepted}
+use Rattle.std.specs.Prelude.{Ok, Err}
+use Rattle.fdt.specs.declared.TreeFault.TheVariants.{OverLimit, BadStructure}
+use Rattle.fdt.specs.declared.TreeFault.{TreeFault}
+use Rattle.std.specs.Prelude.{Result}
 
 -- ── What a token does, whatever follows it and however much the limits are raised ──
 
@@ -33,7 +36,7 @@ abbrev pub Onward : Tok → ℕ → ℕ → Bool → ℕ → ℕ → Bool → Ty
 Onward t d c a e m o = (lv nd : ℕ) → Raised lv nd → (r : List Tok) → run_l lv nd (t ∷ r) d c a ≡ run_l lv nd r e m o
 
 abbrev pub Refused : Tok → ℕ → ℕ → Bool → Type 0
-Refused t d c a = (lv nd : ℕ) → Raised lv nd → (r : List Tok) → run_l lv nd (t ∷ r) d c a ≡ Broken
+Refused t d c a = (lv nd : ℕ) → Raised lv nd → (r : List Tok) → run_l lv nd (t ∷ r) d c a ≡ Err BadStructure
 
 -- why a token is refused: a root after the root, or with a name; no node to end; no property here; nodes still open, or none begun
 abbrev pub Why : Tok → ℕ → ℕ → Bool → Type 0
@@ -54,7 +57,7 @@ AtLimit t d c = (begun (t ∷ []) ≡ 1) × (0 < d) × ((d ≡ 32) ⊎ (c ≡ 40
 pub data Turn (t : Tok) (d c : ℕ) (a : Bool) : Type 0 where
   goes : (e m : ℕ) (o : Bool) → Sane e m o → Marks t o → e + closed (t ∷ []) ≡ d + begun (t ∷ []) → m ≡ c + begun (t ∷ []) → Onward t d c a e m o → Turn t d c a
   breaks : Why t d c a → Turn t d c a
-  exceeds : (e m : ℕ) (o : Bool) → (0 < e → 0 < m) → AtLimit t d c → ((r : List Tok) → run_t (t ∷ r) d c a ≡ Over)
+  exceeds : (e m : ℕ) (o : Bool) → (0 < e → 0 < m) → AtLimit t d c → ((r : List Tok) → run_t (t ∷ r) d c a ≡ Err OverLimit)
       → ((r : List Tok) → run_l 33 4097 (t ∷ r) d c a ≡ run_l 33 4097 r e m o) → Turn t d c a
 
 -- a node that begins inside the root: the limits raised by one let it pass
@@ -65,7 +68,7 @@ begin_raised p nm d c a s r =
     let l2 : c < 4097 = omega arith in
     rw (lt-leb _ _ l1, lt-leb _ _ l2)
 
-pub begin_over : (p : ℕ) (nm : List ℕ) (d c : ℕ) (a : Bool) → (suc d ≡ 32) ⊎ (c ≡ 4096) → (r : List Tok) → run_t (begin p nm ∷ r) (suc d) c a ≡ Over
+pub begin_over : (p : ℕ) (nm : List ℕ) (d c : ℕ) (a : Bool) → (suc d ≡ 32) ⊎ (c ≡ 4096) → (r : List Tok) → run_t (begin p nm ∷ r) (suc d) c a ≡ Err OverLimit
 unfolding run_l
 begin_over p nm d c a (inl h) r =
     let l : 32 ≤ suc d = omega arith in
@@ -74,7 +77,7 @@ begin_over p nm d c a (inr h) r =
     let l : 4096 ≤ c = omega arith in
     rw (le-leb 4096 c l) (either (leb 32 (suc d)))
   where
-    either : (t : Bool) → cond t Over Over ≡ Over
+    either : (t : Bool) → ◌≡◌ {A = Result Unit TreeFault} (cond t (Err OverLimit) (Err OverLimit)) (Err OverLimit)
     either true = refl
     either false = refl
 
@@ -117,22 +120,22 @@ unfolding run_l
 turn_prop x d c true s = goes d c true s ((λ x y. never (cc)), (λ x. never (cc))) refl (omega arith) (λ lv nd w r. refl)
 turn_prop x d c false s = breaks refl
 
-fin_more : (lv nd d c : ℕ) (a : Bool) (r : List Tok) → run_l lv nd (fin ∷ []) d c a ≡ Broken → run_l lv nd (fin ∷ r) d c a ≡ Broken
+fin_more : (lv nd d c : ℕ) (a : Bool) (r : List Tok) → run_l lv nd (fin ∷ []) d c a ≡ Err BadStructure → run_l lv nd (fin ∷ r) d c a ≡ Err BadStructure
 unfolding run_l
 fin_more lv nd d c a [] h = h
 fin_more lv nd d c a (t ∷ r) h = refl
 
 -- FDT_END closes the block, or is at fault
-pub fin_way : (d c : ℕ) (a : Bool) → (run_t (fin ∷ []) d c a ≡ Accepted) ⊎ Why fin d c a
+pub fin_way : (d c : ℕ) (a : Bool) → (run_t (fin ∷ []) d c a ≡ Ok tt) ⊎ Why fin d c a
 unfolding run_l
 fin_way zero c a = go (eqb c 0) refl
   where
-    go : (t : Bool) → eqb c 0 ≡ t → (run_t (fin ∷ []) zero c a ≡ Accepted) ⊎ Why fin zero c a
+    go : (t : Bool) → eqb c 0 ≡ t → (run_t (fin ∷ []) zero c a ≡ Ok tt) ⊎ Why fin zero c a
     go true h = inr (inr (eqb-true _ _ h))
     go false h = inl (rw h)
 fin_way (suc d) c a = inr (inl (omega arith))
 
-both_broken : (t : Bool) → cond t Broken Broken ≡ Broken
+both_broken : (t : Bool) → ◌≡◌ {A = Result Unit TreeFault} (cond t (Err BadStructure) (Err BadStructure)) (Err BadStructure)
 both_broken true = refl
 both_broken false = refl
 
@@ -160,14 +163,14 @@ closing : ℕ → List Tok
 closing zero = fin ∷ []
 closing (suc d) = ended ∷ closing d
 
-closing_accepted : (lv nd d c : ℕ) (a : Bool) → 0 < c → run_l lv nd (closing d) d c a ≡ Accepted
+closing_accepted : (lv nd d c : ℕ) (a : Bool) → 0 < c → run_l lv nd (closing d) d c a ≡ Ok tt
 unfolding run_l closing
 closing_accepted lv nd zero c a h =
     let z : c ≡ 0 → ⊥ = λ q. omega arith in
     rw (ne_eqb _ _ z)
 closing_accepted lv nd (suc d) c a h = closing_accepted lv nd d c false h
 
-closable : (lv nd d c : ℕ) (a : Bool) → (0 < d → 0 < c) → (r : List Tok) × (run_l lv nd r d c a ≡ Accepted)
+closable : (lv nd d c : ℕ) (a : Bool) → (0 < d → 0 < c) → (r : List Tok) × (run_l lv nd r d c a ≡ Ok tt)
 unfolding run_l
 closable lv nd zero zero a h = (begin 0 [] ∷ closing 1, closing_accepted lv nd 1 1 true (omega arith))
 closable lv nd zero (suc c) a h = (closing 0, closing_accepted lv nd 0 (suc c) a (omega arith))
@@ -198,7 +201,7 @@ closed_more (fin ∷ x) y = closed_more x y
 closed_more (bad ∷ x) y = closed_more x y
 
 -- the tree that is written in accepted tokens begins with the first of them
-tree_of : (lv nd : ℕ) → 1 ≤ lv → 1 ≤ nd → (ts r : List Tok) → run_l lv nd (ts ++ r) 0 0 false ≡ Accepted → (g : Begins ts) × (suc (height g.kids) ≤ lv) × (suc (count g.kids) ≤ nd)
+tree_of : (lv nd : ℕ) → 1 ≤ lv → 1 ≤ nd → (ts r : List Tok) → run_l lv nd (ts ++ r) 0 0 false ≡ Ok tt → (g : Begins ts) × (suc (height g.kids) ≤ lv) × (suc (count g.kids) ≤ nd)
 tree_of lv nd x y ts r e =
     let w = accepted_tree lv nd x y (ts ++ r) e in
     (record { root = w.0; ps = w.1; kids = w.2; rest = r; form = sym w.3 }, w.4, w.5)
@@ -238,7 +241,7 @@ module _ (ts : List Tok) (d c : ℕ) (a : Bool) (k : Comes ts d c a) where
       record { begins = w.0; within = record { levels = w.1; nodes = w.2 } }
 
   -- with FDT_END that closes the block too
-  pub come_whole : run_t (fin ∷ []) d c a ≡ Accepted → (b n : List ℕ) → BeginsWithin b n (ts ++ (fin ∷ []))
+  pub come_whole : run_t (fin ∷ []) d c a ≡ Ok tt → (b n : List ℕ) → BeginsWithin b n (ts ++ (fin ∷ []))
   come_whole f b n =
       let w = tree_of 32 4096 (omega arith) (omega arith) (ts ++ (fin ∷ [])) [] (past fin 32 4096 as_given [] ∙ f) in
       record { begins = w.0; within = record { levels = w.1; nodes = w.2 } }
@@ -249,15 +252,15 @@ module _ (ts : List Tok) (d c : ℕ) (a : Bool) (k : Comes ts d c a) where
       let lv = 32 + suc (height g.kids) in
       let nd = 4096 + suc (count g.kids) in
       let w : Raised lv nd = record { high = omega arith; more = omega arith } in
-      let e : Accepted ≡ Broken = sym (tree_accepted lv nd g.root g.ps g.kids (omega arith) (omega arith)) ∙ ap (λ (x : List Tok). run_l lv nd x 0 0 false) g.form ∙ past t lv nd w g.rest ∙ refused t d c a y lv nd w g.rest in
+      let e : Ok tt ≡ Err BadStructure = sym (tree_accepted lv nd g.root g.ps g.kids (omega arith) (omega arith)) ∙ ap (λ (x : List Tok). run_l lv nd x 0 0 false) g.form ∙ past t lv nd w g.rest ∙ refused t d c a y lv nd w g.rest in
       never (cc)
 
-  module _ (t : Tok) (f : (r : List Tok) → run_t (t ∷ r) d c a ≡ Over) where
+  module _ (t : Tok) (f : (r : List Tok) → run_t (t ∷ r) d c a ≡ Err OverLimit) where
     -- with one that exceeds they are the first of no tree within the limits
     pub come_over : (b n : List ℕ) → BeginsWithin b n (ts ++ (t ∷ [])) → ⊥
     come_over b n g =
         let h = g.begins in
-        let e : Accepted ≡ Over = sym (tree_accepted 32 4096 h.root h.ps h.kids g.within.levels g.within.nodes) ∙ ap (λ (x : List Tok). run_t x 0 0 false) h.form ∙ past t 32 4096 as_given h.rest ∙ f h.rest in
+        let e : Ok tt ≡ Err OverLimit = sym (tree_accepted 32 4096 h.root h.ps h.kids g.within.levels g.within.nodes) ∙ ap (λ (x : List Tok). run_t x 0 0 false) h.form ∙ past t 32 4096 as_given h.rest ∙ f h.rest in
         never (cc)
 
     -- but of some tree
@@ -305,7 +308,7 @@ shorter (s ∷ x) t (u ∷ y) m h =
 
 -- ── Nothing follows FDT_END in accepted tokens ──
 
-end_last : (lv nd : ℕ) (x r : List Tok) (d c : ℕ) (a : Bool) → run_l lv nd (x ++ (fin ∷ r)) d c a ≡ Accepted → r ≡ []
+end_last : (lv nd : ℕ) (x r : List Tok) (d c : ℕ) (a : Bool) → run_l lv nd (x ++ (fin ∷ r)) d c a ≡ Ok tt → r ≡ []
 unfolding run_l
 end_last lv nd [] [] d c a h = refl
 end_last lv nd [] (t ∷ r) d c a h = never (cc)

@@ -8,12 +8,9 @@ use lib.ListN.{length}
 use Rattle.words.specs.Bytes.{bytes, part_of}
 use Rattle.words.proofs.BytesLaws.{part_cut}
 use Rattle.fdt.specs.Tree.{Tok, begin, ended, prop, fin, bad, lex_at}
-use Rattle.nodes.specs.declared.Found.{Found}
-use Rattle.nodes.specs.declared.Found.TheVariants.{At, Nothing}
 use Rattle.nodes.specs.declared.Kid.TheVariants.{Stuck}
-use Rattle.nodes.specs.declared.Child.{Child}
-use Rattle.nodes.specs.declared.Child.TheVariants.{Is, Absent}
 use Rattle.nodes.specs.Nav.{matches, first_kid, drop_p, skip_t, find_t, KidIs, NodeIs, EndIs, SkipsTo, ChildIs}
+use Rattle.std.specs.Prelude.{Option, Some, None}
 
 find_drop : (step : List ℕ) (ts : List Tok) (d : ℕ) → find_t step (drop_p ts) d ≡ find_t step ts d
 unfolding drop_p find_t
@@ -72,10 +69,6 @@ module _ (b n : List ℕ) (p : ℕ) (step : List ℕ) where
   find_stuck k = find_past k.1 ∙ stuck_none k.0
 
 -- the child, as an answer
-abbrev pub placed : Child → Found
-placed (Is q r) = At q
-placed Absent = Nothing
-
-pub child_found : (b n : List ℕ) (p : ℕ) (step : List ℕ) (k : Child) → ChildIs b n p step k → placed k ≡ first_kid (find_t step (lex_at b n p) 0)
-child_found b n p step (Is q r) i = sym (ap first_kid i.1)
-child_found b n p step Absent i = sym (ap first_kid i)
+pub child_found : (b n : List ℕ) (p : ℕ) (step : List ℕ) (k : Option ℕ) → ChildIs b n p step k → k ≡ first_kid (find_t step (lex_at b n p) 0)
+child_found b n p step (Some q) i = sym (ap first_kid i.2)
+child_found b n p step None i = sym (ap first_kid i)

@@ -14,14 +14,13 @@ use Rattle.fdt.specs.declared.Token.TheVariants.{Bad, Nop, Begin, EndNode, Prop,
 use Rattle.fdt.specs.Token.{tok_at}
 use Rattle.fdt.specs.Tree.{Tok, begin, ended, prop, fin, bad, taken, lex_at}
 use Rattle.fdt.proofs.TokLaws.{Reach}
-use Rattle.nodes.specs.declared.Found.{Found}
-use Rattle.nodes.specs.declared.Found.TheVariants.{At, Nothing}
-use Rattle.nodes.specs.declared.Value.TheVariants.{Here, Missing}
 use Rattle.nodes.specs.declared.Kid.{Kid}
 use Rattle.nodes.specs.declared.Kid.TheVariants.{Node, End, Stuck}
 use Rattle.nodes.specs.Nav.{same_bytes, first_kid, drop_p, skip_t, lookup, KidIs, SkipsTo}
 use Rattle.nodes.proofs.SameLaws.{part_upto}
 use Rattle.nodes.proofs.TokenLaws.{read, reach}
+use Rattle.std.specs.Prelude.{Option, Some, None}
+use Rattle.fdt.specs.Opening.{block}
 
 -- ── Past the properties ──
 
@@ -109,15 +108,15 @@ first_drop (prop q ∷ ts) = first_drop ts
 first_drop (fin ∷ ts) = refl
 first_drop (bad ∷ ts) = refl
 
-first_stuck : (e : Bool) → Nothing ≡ first_kid (cond e fin bad ∷ [])
+first_stuck : (e : Bool) → None ≡ first_kid (cond e fin bad ∷ [])
 first_stuck true = refl
 first_stuck false = refl
 
 -- what stands past the properties, as an answer
-abbrev pub headed : Kid → Found
-headed (Node q l r) = At q
-headed (End r) = Nothing
-headed Stuck = Nothing
+abbrev pub headed : Kid → Option ℕ
+headed (Node q l r) = Some q
+headed (End r) = None
+headed Stuck = None
 
 pub kid_first : (b n : List ℕ) (p : ℕ) (k : Kid) → KidIs b n p k → headed k ≡ first_kid (lex_at b n p)
 kid_first b n p (Node q l r) i = sym (ap first_kid i.is) ∙ first_drop (lex_at b n p)
@@ -128,12 +127,12 @@ kid_first b n p Stuck i = first_stuck i.0 ∙ sym (ap first_kid i.1) ∙ first_d
 
 -- what is to show of a token at the place at, but for a property's
 abbrev pub LookStep : List ℕ → List ℕ → List ℕ → ℕ → Token → Type 0
-LookStep b n name at Bad = lookup name (lex_at b n at) ≡ Missing
+LookStep b n name at Bad = lookup name (lex_at b n at) ≡ None
 LookStep b n name at (Nop q) = lookup name (lex_at b n at) ≡ lookup name (lex_at b n q)
-LookStep b n name at (Begin l q) = lookup name (lex_at b n at) ≡ Missing
-LookStep b n name at (EndNode q) = lookup name (lex_at b n at) ≡ Missing
+LookStep b n name at (Begin l q) = lookup name (lex_at b n at) ≡ None
+LookStep b n name at (EndNode q) = lookup name (lex_at b n at) ≡ None
 LookStep b n name at (Prop l a z q) = Unit {0}
-LookStep b n name at Fin = lookup name (lex_at b n at) ≡ Missing
+LookStep b n name at Fin = lookup name (lex_at b n at) ≡ None
 
 module _ (b n name : List ℕ) (at : ℕ) where
   look_of : (t : Token) → lex_at b n at ≡ taken b n at t (lex_at b n) → LookStep b n name at t
@@ -153,7 +152,7 @@ module _ (b n name : List ℕ) (p l a z q : ℕ) (r : Token) (is : r ≡ tok_at 
   named : x ≡ bytes n a z
   named = let m = reach b n p is e in part_upto n a z x ex (omega arith) (omega arith)
 
-  pub look_hit : same_bytes x name ≡ true → lookup name (lex_at b n p) ≡ Here (p + 12) l
+  pub look_hit : same_bytes x name ≡ true → lookup name (lex_at b n p) ≡ Some (block (p + 12) l)
   unfolding lookup
   look_hit h =
       let m = reach b n p is e in

@@ -1,19 +1,15 @@
 -- Finding one's way in a structure block b with names in a strings block n, on the tokens from a place on. specs/OnTree.antt says the
 -- same on the tree, and the crate reading proves that on an accepted tree, at a node's place, the two agree.
-use Rattle.std.specs.Prelude.{◌≡◌, ℕ, zero, suc, ◌+◌, ◌≤◌, ◌<◌, Bool, true, false, cond, ◌||◌, List, [], ◌∷◌, length, eqb}
+use Rattle.std.specs.Prelude.{◌≡◌, ℕ, zero, suc, ◌+◌, ◌≤◌, ◌<◌, Bool, true, false, cond, ◌||◌, List, [], ◌∷◌, length, eqb, Option, Some, None}
 use Rattle.words.specs.Bytes.{bytes, first_byte}
 use Rattle.fdt.specs.declared.Token.{Token}
 use Rattle.fdt.specs.declared.Token.TheVariants.{Bad, Nop, Begin, EndNode, Prop, Fin}
 use Rattle.fdt.specs.Token.{tok_at}
 use Rattle.fdt.specs.Tree.{Tok, begin, ended, prop, fin, bad, lex_at}
-use Rattle.nodes.specs.declared.Found.{Found}
-use Rattle.nodes.specs.declared.Found.TheVariants.{At, Nothing}
-use Rattle.nodes.specs.declared.Value.{Value}
-use Rattle.nodes.specs.declared.Value.TheVariants.{Here, Missing}
 use Rattle.nodes.specs.declared.Kid.{Kid}
 use Rattle.nodes.specs.declared.Kid.TheVariants.{Node, End, Stuck}
-use Rattle.nodes.specs.declared.Child.{Child}
-use Rattle.nodes.specs.declared.Child.TheVariants.{Is, Absent}
+use Rattle.fdt.specs.declared.Block.{Block}
+use Rattle.fdt.specs.Opening.{block}
 
 -- ── Names ──
 unfoldable pub same_bytes : List ℕ → List ℕ → Bool
@@ -31,16 +27,16 @@ unfoldable pub matches : List ℕ → List ℕ → Bool
 matches name step = same_bytes name step || same_bytes (unitless name) step
 
 -- ── The token at a place, as a node's ──
-abbrev pub content_of : Token → Found
-content_of Bad = Nothing
-content_of (Nop q) = Nothing
-content_of (Begin l q) = At q
-content_of (EndNode q) = Nothing
-content_of (Prop l a z q) = Nothing
-content_of Fin = Nothing
+abbrev pub content_of : Token → Option ℕ
+content_of Bad = None
+content_of (Nop q) = None
+content_of (Begin l q) = Some q
+content_of (EndNode q) = None
+content_of (Prop l a z q) = None
+content_of Fin = None
 
 -- the place after the name of the node at q
-abbrev pub content_at : List ℕ → List ℕ → ℕ → Found
+abbrev pub content_at : List ℕ → List ℕ → ℕ → Option ℕ
 content_at b n q = content_of (tok_at b n q)
 
 abbrev pub name_in : List ℕ → ℕ → Token → List ℕ
@@ -55,20 +51,20 @@ abbrev pub name_at : List ℕ → List ℕ → ℕ → List ℕ
 name_at b n q = name_in b q (tok_at b n q)
 
 -- from the place after a node's name on, where a node begins at all
-abbrev pub inside : {A : Type 0} → A → (ℕ → A) → Found → A
-inside missing f (At p) = f p
-inside missing f Nothing = missing
+abbrev pub inside : {A : Type 0} → A → (ℕ → A) → Option ℕ → A
+inside missing f (Some p) = f p
+inside missing f None = missing
 
 -- ── Children ──
 
 -- the first node, past the properties
-abbrev pub first_kid : List Tok → Found
-first_kid [] = Nothing
-first_kid (begin p nm ∷ ts) = At p
-first_kid (ended ∷ ts) = Nothing
+abbrev pub first_kid : List Tok → Option ℕ
+first_kid [] = None
+first_kid (begin p nm ∷ ts) = Some p
+first_kid (ended ∷ ts) = None
 first_kid (prop q ∷ ts) = first_kid ts
-first_kid (fin ∷ ts) = Nothing
-first_kid (bad ∷ ts) = Nothing
+first_kid (fin ∷ ts) = None
+first_kid (bad ∷ ts) = None
 
 -- the tokens past the end of the node of which d levels are open
 abbrev pub skip_t : List Tok → ℕ → List Tok
@@ -82,24 +78,24 @@ skip_t (fin ∷ ts) d = fin ∷ ts
 skip_t (bad ∷ ts) d = bad ∷ ts
 
 -- a node's first child: the tokens after its name
-unfoldable pub first_at : List ℕ → List ℕ → ℕ → Found
-first_at b n q = inside Nothing (λ p. first_kid (lex_at b n p)) (content_at b n q)
+unfoldable pub first_at : List ℕ → List ℕ → ℕ → Option ℕ
+first_at b n q = inside None (λ p. first_kid (lex_at b n p)) (content_at b n q)
 
 -- its next sibling: the tokens past its end
-unfoldable pub next_at : List ℕ → List ℕ → ℕ → Found
-next_at b n q = inside Nothing (λ p. first_kid (skip_t (lex_at b n p) 1)) (content_at b n q)
+unfoldable pub next_at : List ℕ → List ℕ → ℕ → Option ℕ
+next_at b n q = inside None (λ p. first_kid (skip_t (lex_at b n p) 1)) (content_at b n q)
 
 -- ── Properties: "Of equal property names in a node the first counts" ──
-unfoldable pub lookup : List ℕ → List Tok → Value
-lookup name [] = Missing
-lookup name (begin p nm ∷ ts) = Missing
-lookup name (ended ∷ ts) = Missing
-lookup name (prop q ∷ ts) = cond (same_bytes q.name name) (Here (q.at + 12) (length q.value)) (lookup name ts)
-lookup name (fin ∷ ts) = Missing
-lookup name (bad ∷ ts) = Missing
+unfoldable pub lookup : List ℕ → List Tok → Option Block
+lookup name [] = None
+lookup name (begin p nm ∷ ts) = None
+lookup name (ended ∷ ts) = None
+lookup name (prop q ∷ ts) = cond (same_bytes q.name name) (Some (block (q.at + 12) (length q.value))) (lookup name ts)
+lookup name (fin ∷ ts) = None
+lookup name (bad ∷ ts) = None
 
-unfoldable pub prop_at : List ℕ → List ℕ → ℕ → List ℕ → Value
-prop_at b n q name = inside Missing (λ p. lookup name (lex_at b n p)) (content_at b n q)
+unfoldable pub prop_at : List ℕ → List ℕ → ℕ → List ℕ → Option Block
+prop_at b n q name = inside None (λ p. lookup name (lex_at b n p)) (content_at b n q)
 
 -- ── A child by a step ──
 
@@ -114,8 +110,8 @@ find_t step (prop q ∷ ts) d = find_t step ts d
 find_t step (fin ∷ ts) d = []
 find_t step (bad ∷ ts) d = []
 
-unfoldable pub child_at : List ℕ → List ℕ → ℕ → List ℕ → Found
-child_at b n q step = inside Nothing (λ p. first_kid (find_t step (lex_at b n p) 0)) (content_at b n q)
+unfoldable pub child_at : List ℕ → List ℕ → ℕ → List ℕ → Option ℕ
+child_at b n q step = inside None (λ p. first_kid (find_t step (lex_at b n p) 0)) (content_at b n q)
 
 -- ── The contracts of the steps inside ──
 
@@ -147,6 +143,6 @@ pub record SkipsTo (b n : List ℕ) (p r : ℕ) : Type 0 where
   pub is : lex_at b n r ≡ skip_t (lex_at b n p) 1
   pub onward : p ≤ r
 
-abbrev pub ChildIs : List ℕ → List ℕ → ℕ → List ℕ → Child → Type 0
-ChildIs b n p step (Is q r) = (nm : List ℕ) × (find_t step (lex_at b n p) 0 ≡ begin q nm ∷ lex_at b n r)
-ChildIs b n p step Absent = find_t step (lex_at b n p) 0 ≡ []
+abbrev pub ChildIs : List ℕ → List ℕ → ℕ → List ℕ → Option ℕ → Type 0
+ChildIs b n p step (Some q) = (nm : List ℕ) × (r : ℕ) × (find_t step (lex_at b n p) 0 ≡ begin q nm ∷ lex_at b n r)
+ChildIs b n p step None = find_t step (lex_at b n p) 0 ≡ []

@@ -11,21 +11,7 @@ ghost use Rattle.nodes.specs.Order.{place_at};
 ghost use Rattle.nodes.specs.Cells.{address_cells, size_cells, count_at};
 
 use cells::CellCount;
-use fdt::Token;
-
-// A node's place, or nothing.
-#[derive(Clone, Copy)]
-pub enum Found {
-    At(usize),
-    Nothing,
-}
-
-// Where a property's value stands in the structure block and how long it is, or nothing.
-#[derive(Clone, Copy)]
-pub enum Value {
-    Here(usize, usize),
-    Missing,
-}
+use fdt::{Block, Token};
 
 // What stands past the properties: a child, with the length of its name and the place after its name; the end of the node, with the
 // place after it; or a token at which nothing goes on.
@@ -36,28 +22,11 @@ enum Kid {
     Stuck,
 }
 
-// A child by its place and the place after its name, or nothing.
-#[derive(Clone, Copy)]
-enum Child {
-    Is(usize, usize),
-    Absent,
-}
-
 // Whether two parts of bytes are the same.
 pub fn same<'a>(a: &'a [u8], b: &'a [u8]) -> bool
     ensures { result ≡ same_bytes a.now b.now }
 {
-    if a.len() != b.len() {
-        return false;
-    }
-    let mut i: usize = 0;
-    while i < a.len() {
-        if a[i] != b[i] {
-            return false;
-        }
-        i += 1;
-    }
-    true
+    a == b
 }
 
 // Whether a node's name is a step of a path: its whole name, or its part before `@`.
@@ -72,16 +41,16 @@ pub fn is_step<'a>(name: &'a [u8], step: &'a [u8]) -> bool
 }
 
 // The place after the name of the node at a place, or nothing where no node begins there.
-fn content_of<'a>(structure: &'a [u8], strings: &'a [u8], node: usize) -> Found
+fn content_of<'a>(structure: &'a [u8], strings: &'a [u8], node: usize) -> Option<usize>
     ensures { result ≡ content_at structure.now strings.now node }
 {
     match fdt::token_at(structure, strings, node) {
-        Token::Begin(_, next) => Found::At(next),
-        Token::Bad => Found::Nothing,
-        Token::Nop(_) => Found::Nothing,
-        Token::EndNode(_) => Found::Nothing,
-        Token::Prop(_, _, _, _) => Found::Nothing,
-        Token::Fin => Found::Nothing,
+        Token::Begin(_, next) => Some(next),
+        Token::Bad => None,
+        Token::Nop(_) => None,
+        Token::EndNode(_) => None,
+        Token::Prop(_, _, _, _) => None,
+        Token::Fin => None,
     }
 }
 
@@ -164,38 +133,34 @@ fn skip<'a>(structure: &'a [u8], strings: &'a [u8], p: usize) -> usize
 }
 
 // The first node from p on, past the properties.
-fn kid_from<'a>(structure: &'a [u8], strings: &'a [u8], p: usize) -> Found
+fn kid_from<'a>(structure: &'a [u8], strings: &'a [u8], p: usize) -> Option<usize>
     ensures { result ≡ first_kid (lex_at structure.now strings.now p) }
 {
     match next_kid(structure, strings, p) {
-        Kid::Node(q, _, _) => Found::At(q),
-        Kid::End(_) => Found::Nothing,
-        Kid::Stuck => Found::Nothing,
+        Kid::Node(q, _, _) => Some(q),
+        Kid::End(_) => None,
+        Kid::Stuck => None,
     }
 }
 
 // The first child of the node at a place.
-pub fn first_subnode<'a>(structure: &'a [u8], strings: &'a [u8], node: usize) -> Found
+pub fn first_subnode<'a>(structure: &'a [u8], strings: &'a [u8], node: usize) -> Option<usize>
     ensures { result ≡ first_at structure.now strings.now node }
 {
-    let Found::At(p) = content_of(structure, strings, node) else {
-        return Found::Nothing;
-    };
+    let p = content_of(structure, strings, node)?;
     kid_from(structure, strings, p)
 }
 
 // The sibling after the node at a place.
-pub fn next_subnode<'a>(structure: &'a [u8], strings: &'a [u8], node: usize) -> Found
+pub fn next_subnode<'a>(structure: &'a [u8], strings: &'a [u8], node: usize) -> Option<usize>
     ensures { result ≡ next_at structure.now strings.now node }
 {
-    let Found::At(p) = content_of(structure, strings, node) else {
-        return Found::Nothing;
-    };
+    let p = content_of(structure, strings, node)?;
     kid_from(structure, strings, skip(structure, strings, p))
 }
 
 // The first property of a name from p on, before the first child.
-fn prop_from<'a>(structure: &'a [u8], strings: &'a [u8], p: usize, name: &'a [u8]) -> Value
+fn prop_from<'a>(structure: &'a [u8], strings: &'a [u8], p: usize, name: &'a [u8]) -> Option<Block>
     ensures { result ≡ lookup name.now (lex_at structure.now strings.now p) }
 {
     let mut at = p;
@@ -206,38 +171,37 @@ fn prop_from<'a>(structure: &'a [u8], strings: &'a [u8], p: usize, name: &'a [u8
             }
             Token::Prop(len, a, z, next) => {
                 if same(words::part(strings, a, z - a), name) {
-                    return Value::Here(at + 12, len);
+                    return Some(Block { at: at + 12, len });
                 }
                 at = next;
             }
             Token::Begin(_, _) => {
-                return Value::Missing;
+                return None;
             }
             Token::EndNode(_) => {
-                return Value::Missing;
+                return None;
             }
             Token::Fin => {
-                return Value::Missing;
+                return None;
             }
             Token::Bad => {
-                return Value::Missing;
+                return None;
             }
         }
     }
 }
 
-// The property of a name of the node at a place; of equal names the first counts.
-pub fn getprop<'a>(structure: &'a [u8], strings: &'a [u8], node: usize, name: &'a [u8]) -> Value
+// The value of the property of a name of the node at a place: where it stands in the structure block and how long it is; of equal names
+// the first counts.
+pub fn getprop<'a>(structure: &'a [u8], strings: &'a [u8], node: usize, name: &'a [u8]) -> Option<Block>
     ensures { result ≡ prop_at structure.now strings.now node name.now }
 {
-    let Found::At(p) = content_of(structure, strings, node) else {
-        return Value::Missing;
-    };
+    let p = content_of(structure, strings, node)?;
     prop_from(structure, strings, p, name)
 }
 
 // The first child from p on that is a step's.
-fn child_from<'a>(structure: &'a [u8], strings: &'a [u8], p: usize, step: &'a [u8]) -> Child
+fn child_from<'a>(structure: &'a [u8], strings: &'a [u8], p: usize, step: &'a [u8]) -> Option<usize>
     ensures { ChildIs structure.now strings.now p step.now result }
 {
     let mut at = p;
@@ -245,62 +209,52 @@ fn child_from<'a>(structure: &'a [u8], strings: &'a [u8], p: usize, step: &'a [u
         match next_kid(structure, strings, at) {
             Kid::Node(q, len, next) => {
                 if is_step(words::part(structure, q + 4, len), step) {
-                    return Child::Is(q, next);
+                    return Some(q);
                 }
                 at = skip(structure, strings, next);
             }
             Kid::End(_) => {
-                return Child::Absent;
+                return None;
             }
             Kid::Stuck => {
-                return Child::Absent;
+                return None;
             }
         }
     }
 }
 
 // The first child of the node at a place whose whole name, or part before `@`, is the step.
-pub fn subnode<'a>(structure: &'a [u8], strings: &'a [u8], node: usize, step: &'a [u8]) -> Found
+pub fn subnode<'a>(structure: &'a [u8], strings: &'a [u8], node: usize, step: &'a [u8]) -> Option<usize>
     ensures { result ≡ child_at structure.now strings.now node step.now }
 {
-    let Found::At(p) = content_of(structure, strings, node) else {
-        return Found::Nothing;
-    };
-    match child_from(structure, strings, p, step) {
-        Child::Is(q, _) => Found::At(q),
-        Child::Absent => Found::Nothing,
-    }
+    let p = content_of(structure, strings, node)?;
+    child_from(structure, strings, p, step)
 }
 
 // The node that a path names from the root on. `/` alone is the root; any other empty step finds nothing.
-pub fn path_offset<'a>(structure: &'a [u8], strings: &'a [u8], path: &'a [u8]) -> Found
+pub fn path_offset<'a>(structure: &'a [u8], strings: &'a [u8], path: &'a [u8]) -> Option<usize>
     ensures { result ≡ path_at structure.now strings.now path.now }
 {
-    let Found::At(root) = kid_from(structure, strings, 0) else {
-        return Found::Nothing;
-    };
+    let root = kid_from(structure, strings, 0)?;
     if path.len() == 0 {
-        return Found::Nothing;
+        return None;
     }
     if path[0] != b'/' {
-        return Found::Nothing;
+        return None;
     }
     if path.len() == 1 {
-        return Found::At(root);
+        return Some(root);
     }
     let mut node = root;
     let mut i: usize = 1;
     loop {
         let end = words::byte_from(path, i, b'/');
         if end <= i {
-            return Found::Nothing;
+            return None;
         }
-        let Found::At(next) = subnode(structure, strings, node, words::part(path, i, end - i))
-        else {
-            return Found::Nothing;
-        };
+        let next = subnode(structure, strings, node, words::part(path, i, end - i))?;
         if path.len() <= end {
-            return Found::At(next);
+            return Some(next);
         }
         node = next;
         i = end + 1;
@@ -346,8 +300,8 @@ fn count_of<'a>(structure: &'a [u8], strings: &'a [u8], node: usize, name: &'a [
     ensures { result ≡ count_at structure.now strings.now node name.now }
 {
     match getprop(structure, strings, node, name) {
-        Value::Here(at, len) => cells::stated(words::part(structure, at, len)),
-        Value::Missing => CellCount::Absent,
+        Some(value) => cells::stated(words::part(structure, value.at, value.len)),
+        None => CellCount::Absent,
     }
 }
 

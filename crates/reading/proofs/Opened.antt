@@ -5,16 +5,13 @@ use Prim.Native.Nat.{ℕ, ◌+◌}
 use mathlib.Core.List.{List, []}
 use lib.ListN.{length}
 use Rattle.fdt.specs.declared.Blocks.{Blocks}
-use Rattle.fdt.specs.declared.Opened.TheVariants.{Tree}
 use Rattle.fdt.specs.Header.{structure_of, strings_of}
-use Rattle.fdt.specs.Opening.{opened_of}
+use Rattle.fdt.specs.Opening.{opened_of, block}
 use Rattle.fdt.specs.Tree.{Property, Nodes, none, node, tree_of}
 use Rattle.grammar.specs.Veil.{Free, veil_k, Differs, Apart}
 use Rattle.grammar.proofs.GrammarLaws.{tokens_are, tree_is}
 use Rattle.grammar.proofs.OpeningLaws.{opened_exactly, opened_blocks}
 use Rattle.grammar.proofs.VeilLaws.{same_opened, same_opened_tree}
-use Rattle.nodes.specs.declared.Found.TheVariants.{At}
-use Rattle.nodes.specs.declared.Value.TheVariants.{Here, Missing}
 use Rattle.nodes.specs.Nav.{first_at, prop_at}
 use Rattle.nodes.specs.Path.{path_at}
 use Rattle.nodes.specs.Cells.{count_at}
@@ -30,8 +27,9 @@ use Rattle.reading.proofs.Values as values
 use Rattle.reading.proofs.Paths as paths
 use Rattle.reading.proofs.Order as orders
 use Rattle.reading.proofs.ReadVeil as veils
+use Rattle.std.specs.Prelude.{Some, None, Ok}
 
-module _ (s : List ℕ) (k : Blocks) (o : opened_of s ≡ Tree k) where
+module _ (s : List ℕ) (k : Blocks) (o : opened_of s ≡ Ok (Some k)) where
   -- the tree that these bytes are
   abbrev tree : Nodes
   tree = tree_of (structure_of s) (strings_of s)
@@ -40,7 +38,7 @@ module _ (s : List ℕ) (k : Blocks) (o : opened_of s ≡ Tree k) where
   pub on_written : (P : Nodes → Type 0)
       → ((root : ℕ) (ps : List Property) (kids : Nodes) → WrittenFor (structure_of s) (strings_of s) root ps kids → P (node root [] ps kids none)) → P tree
   on_written P f =
-      let w = ((opened_exactly s).0 (o ∙ ap Tree (opened_blocks s k o))).2 in
+      let w = ((opened_exactly s).0 (o ∙ ap (λ (x : Blocks). Ok (Some x)) (opened_blocks s k o))).2 in
       subst P (sym (tree_is (structure_of s) (strings_of s) w.root w.ps w.kids w.block))
       (f w.root w.ps w.kids (tokens_are (structure_of s) (strings_of s) w.root w.ps w.kids w.block))
 
@@ -49,7 +47,7 @@ module _ (s : List ℕ) (k : Blocks) (o : opened_of s ≡ Tree k) where
   path p =
       on_written (λ t. path_at (structure_of s) (strings_of s) p ≡ path_in t p) (λ root ps kids w. paths.path (structure_of s) (strings_of s) root ps kids w p)
 
-  pub path_node : (p : List ℕ) {q : ℕ} → path_at (structure_of s) (strings_of s) p ≡ At q → NodeIn tree q
+  pub path_node : (p : List ℕ) {q : ℕ} → path_at (structure_of s) (strings_of s) p ≡ Some q → NodeIn tree q
   path_node p {q = q} h =
       on_written (λ t. NodeIn t q) (λ root ps kids w. paths.path_node (structure_of s) (strings_of s) root ps kids w p h)
 
@@ -58,14 +56,14 @@ module _ (s : List ℕ) (k : Blocks) (o : opened_of s ≡ Tree k) where
   ascending = on_written (λ t. Ascending 0 (order t [])) (orders.ascending (structure_of s) (strings_of s))
 
   -- the root's number is 0, and its first child's is 1
-  pub root_number : {root : ℕ} → head_of tree ≡ At root → place_at (structure_of s) (strings_of s) root ≡ 0
+  pub root_number : {root : ℕ} → head_of tree ≡ Some root → place_at (structure_of s) (strings_of s) root ≡ 0
   root_number {root = root} h =
-      on_written (λ t. head_of t ≡ At root → place_at (structure_of s) (strings_of s) root ≡ 0)
+      on_written (λ t. head_of t ≡ Some root → place_at (structure_of s) (strings_of s) root ≡ 0)
       (λ r ps kids w e. let z : r ≡ root = cc in rw (← z) (orders.root_number (structure_of s) (strings_of s) r ps kids w)) h
 
-  pub child_number : {root q : ℕ} → head_of tree ≡ At root → first_at (structure_of s) (strings_of s) root ≡ At q → place_at (structure_of s) (strings_of s) q ≡ 1
+  pub child_number : {root q : ℕ} → head_of tree ≡ Some root → first_at (structure_of s) (strings_of s) root ≡ Some q → place_at (structure_of s) (strings_of s) q ≡ 1
   child_number {root = root} {q = q} h f =
-      on_written (λ t. head_of t ≡ At root → place_at (structure_of s) (strings_of s) q ≡ 1)
+      on_written (λ t. head_of t ≡ Some root → place_at (structure_of s) (strings_of s) q ≡ 1)
       (λ r ps kids w e. let z : root ≡ r = cc in orders.child_number (structure_of s) (strings_of s) r ps kids w (rw z at f)) h
 
   -- a node's number is its own: two nodes of one number stand at one place
@@ -95,19 +93,19 @@ module _ (s : List ℕ) (k : Blocks) (o : opened_of s ≡ Tree k) where
 
     module _ (name : List ℕ) where
       -- what a lookup finds is the first property of the name, with its value
-      pub value_found : {at len : ℕ} → prop_at (structure_of s) (strings_of s) q name ≡ Here at len → ValueOf (structure_of s) name os at len
+      pub value_found : {at len : ℕ} → prop_at (structure_of s) (strings_of s) q name ≡ Some (block at len) → ValueOf (structure_of s) name os at len
       value_found {at = at} {len = len} h =
           on_written (λ t. Among q nm os ks rest t → ValueOf (structure_of s) name os at len)
           (λ root ps kids w x. values.value_found (structure_of s) (strings_of s) root ps kids w x name h) a
 
       -- the first property of the name is found
-      pub first_read : {x : Property} → FirstOf name x os → prop_at (structure_of s) (strings_of s) q name ≡ Here (x.at + 12) (length x.value)
+      pub first_read : {x : Property} → FirstOf name x os → prop_at (structure_of s) (strings_of s) q name ≡ Some (block (x.at + 12) (length x.value))
       first_read {x = x} f =
-          on_written (λ t. Among q nm os ks rest t → prop_at (structure_of s) (strings_of s) q name ≡ Here (x.at + 12) (length x.value))
+          on_written (λ t. Among q nm os ks rest t → prop_at (structure_of s) (strings_of s) q name ≡ Some (block (x.at + 12) (length x.value)))
           (λ root ps kids w y. values.first_read (structure_of s) (strings_of s) root ps kids w y name f) a
 
       -- where nothing is found, no property has the name
-      pub none_read : prop_at (structure_of s) (strings_of s) q name ≡ Missing → NoneOf name os
+      pub none_read : prop_at (structure_of s) (strings_of s) q name ≡ None → NoneOf name os
       none_read h =
           on_written (λ t. Among q nm os ks rest t → NoneOf name os)
           (λ root ps kids w x. values.none_read (structure_of s) (strings_of s) root ps kids w x name h) a
@@ -124,7 +122,7 @@ module _ (s : List ℕ) (k : Blocks) (o : opened_of s ≡ Tree k) where
           (λ root ps kids w x. values.count_read (structure_of s) (strings_of s) root ps kids w x name) a
 
 -- Bytes that differ from an opened tree's only in values of free properties and in padding, with the strings block apart, are opened too
-module _ (free : Free) (s t : List ℕ) (d : Differs free s t) (apart : Apart s) (k : Blocks) (o : opened_of s ≡ Tree k) where
+module _ (free : Free) (s t : List ℕ) (d : Differs free s t) (apart : Apart s) (k : Blocks) (o : opened_of s ≡ Ok (Some k)) where
   -- what holds of any two trees that the blocks are written for, and that are equal but for those values
   on_both : (P : Nodes → Type 0)
       → ((root other : ℕ) (ps os : List Property) (kids ls : Nodes) → WrittenFor (structure_of s) (strings_of s) root ps kids

@@ -11,7 +11,6 @@ use lib.Dec.{ltb}
 use borrow.Author.Tests.{eq-eqb, ne_eqb, lt-ltb, le-ltb, ltb-true, ltb-false}
 use Rattle.words.proofs.BytesLaws.{cond_elim}
 use Rattle.fdt.specs.Tree.{Property, Nodes, none, node, Tok, ended, fin, flat_k, lex_at}
-use Rattle.nodes.specs.declared.Found.TheVariants.{At}
 use Rattle.nodes.specs.Nav.{first_at}
 use Rattle.nodes.specs.Order.{place_at, order, number_in}
 use Rattle.nodes.specs.OnTree.{Among, first, below, after, head_of}
@@ -21,6 +20,7 @@ use Rattle.reading.specs.Order.{Ascending, last, then, OneOf, this, later, count
 use Rattle.reading.proofs.Places.{node_at_lem, end_at_lem, past_name}
 use Rattle.reading.proofs.Reading.{numbered, reads}
 use Rattle.reading.proofs.Paths.{no_place, carried}
+use Rattle.std.specs.Prelude.{Some}
 
 -- ── Ascending places ──
 ascending_from : {o p : ℕ} {l : List ℕ} → o ≤ p → Ascending p l → Ascending o l
@@ -147,7 +147,7 @@ same_node : {q : ℕ} {nm om : List ℕ} {ps os : List Property} {kids ls rest r
 same_node x y l a = same_place x y l a refl
 
 -- the number of the first below the first is 1
-second_number : (p : ℕ) (ps : List Property) (kids : Nodes) {q : ℕ} → Ascending 0 (order (node p [] ps kids none) []) → head_of kids ≡ At q
+second_number : (p : ℕ) (ps : List Property) (kids : Nodes) {q : ℕ} → Ascending 0 (order (node p [] ps kids none) []) → head_of kids ≡ Some q
     → number_in (order (node p [] ps kids none) []) q 0 ≡ 1
 unfolding order number_in
 second_number p ps none a h = no_place h
@@ -201,6 +201,6 @@ module _ (b n : List ℕ) where
     root_number = numbered b n root ps kids w root ∙ rw (eq-eqb root root refl)
 
     -- its first child's is 1
-    pub child_number : {q : ℕ} → first_at b n root ≡ At q → place_at b n q ≡ 1
+    pub child_number : {q : ℕ} → first_at b n root ≡ Some q → place_at b n q ≡ 1
     child_number {q = q} h =
         numbered b n root ps kids w q ∙ second_number root ps kids (ascending root ps kids w) (sym (reads b n root ps kids w first).first ∙ h)

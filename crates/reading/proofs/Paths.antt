@@ -8,14 +8,13 @@ use lib.ListN.{length, get_or}
 use lib.Dec.{eqb}
 use Rattle.words.proofs.BytesLaws.{cond_elim}
 use Rattle.fdt.specs.Tree.{Property, Nodes, none, node}
-use Rattle.nodes.specs.declared.Found.{Found}
-use Rattle.nodes.specs.declared.Found.TheVariants.{At, Nothing}
 use Rattle.nodes.specs.Nav.{inside, first_at, next_at, child_at, matches}
 use Rattle.nodes.specs.Path.{steps_from, go_from, path_at}
 use Rattle.nodes.specs.OnTree.{Among, first, below, after, head_of, find_k, go_k}
 use Rattle.reading.specs.Reads.{WrittenFor}
 use Rattle.reading.specs.Paths.{path_in, NodeIn}
 use Rattle.reading.proofs.Reading.{reads}
+use Rattle.std.specs.Prelude.{Option, Some, None}
 
 -- ── Nodes among nodes ──
 module _ {q : ℕ} {nm : List ℕ} {ps : List Property} {kids rest : Nodes} where
@@ -42,7 +41,7 @@ module _ {q : ℕ} {nm : List ℕ} {ps : List Property} {kids rest : Nodes} wher
 
 -- ── Answers are nodes ──
 -- nothing is no place
-pub no_place : {A : Type 0} {q : ℕ} → Nothing ≡ At q → A
+pub no_place : {A : Type 0} {q : ℕ} → None ≡ Some q → A
 no_place e = let z : ◌≡◌ {A = ℕ} 0 1 = cc in let x : ⊥ = omega arith in absurd x
 
 -- a node of u that is among t's is one of t
@@ -50,12 +49,12 @@ pub carried : {t u : Nodes} {q : ℕ} (i : NodeIn u q) → Among q i.name i.prop
 carried i a = record { name = i.name; properties = i.properties; kids = i.kids; rest = i.rest; among = a }
 
 -- the first of these nodes is one of them
-pub head_in : (t : Nodes) {q : ℕ} → head_of t ≡ At q → NodeIn t q
+pub head_in : (t : Nodes) {q : ℕ} → head_of t ≡ Some q → NodeIn t q
 head_in none h = no_place h
 head_in (node r nm ps kids rest) h =
     subst (NodeIn (node r nm ps kids rest)) (cc) (record { name = nm; properties = ps; kids = kids; rest = rest; among = first })
 
-go_in : (steps : List (List ℕ)) (t : Nodes) {q : ℕ} → go_k t steps ≡ At q → NodeIn t q
+go_in : (steps : List (List ℕ)) (t : Nodes) {q : ℕ} → go_k t steps ≡ Some q → NodeIn t q
 unfolding go_k
 go_in [] t h = head_in t h
 go_in ([] ∷ steps) t h = no_place h
@@ -64,10 +63,10 @@ go_in ((x ∷ step) ∷ steps) (node r nm ps kids rest) h =
     let i = go_in steps (find_k (x ∷ step) kids) h in carried i (below (found (x ∷ step) kids i.among))
 
 -- a path leads to a node of the tree, or to nothing
-pub path_in_lem : (t : Nodes) (path : List ℕ) {q : ℕ} → path_in t path ≡ At q → NodeIn t q
+pub path_in_lem : (t : Nodes) (path : List ℕ) {q : ℕ} → path_in t path ≡ Some q → NodeIn t q
 unfolding path_in
 path_in_lem t path {q = q} h =
-    let P : Found → Type 0 = λ f. f ≡ At q → NodeIn t q in
+    let P : Option ℕ → Type 0 = λ f. f ≡ Some q → NodeIn t q in
     cond_elim P (eqb (length path) 0) _ _ (λ e. no_place)
     (λ e. cond_elim P (eqb (get_or path 0 0) 47) _ _
     (λ e. cond_elim P (eqb (length path) 1) _ _ (λ e. head_in t) (λ e. go_in (steps_from (length path) path 1) t))
@@ -75,7 +74,7 @@ path_in_lem t path {q = q} h =
     h
 
 -- ── Paths ──
-go_none : (steps : List (List ℕ)) → Nothing ≡ go_k none steps
+go_none : (steps : List (List ℕ)) → None ≡ go_k none steps
 unfolding go_k
 go_none [] = refl
 go_none ([] ∷ steps) = refl
@@ -94,7 +93,7 @@ module _ (b n : List ℕ) (root : ℕ) (ps : List Property) (kids : Nodes) (w : 
     where
       each : (f : Nodes)
           → ((q : ℕ) (nm : List ℕ) (os : List Property) (ls rest : Nodes) → Among q nm os ls rest f → go_from b n q steps ≡ go_k (node q nm os ls rest) steps)
-          → inside Nothing (λ r. go_from b n r steps) (head_of f) ≡ go_k f steps
+          → inside None (λ r. go_from b n r steps) (head_of f) ≡ go_k f steps
       each none s = go_none steps
       each (node q nm os ls rest) s = s q nm os ls rest first
 
@@ -104,17 +103,17 @@ module _ (b n : List ℕ) (root : ℕ) (ps : List Property) (kids : Nodes) (w : 
   path p = rw (w, go (steps_from (length p) p 1) first)
 
   -- and so to a node of it, or to nothing
-  pub path_node : (p : List ℕ) {q : ℕ} → path_at b n p ≡ At q → NodeIn (node root [] ps kids none) q
+  pub path_node : (p : List ℕ) {q : ℕ} → path_at b n p ≡ Some q → NodeIn (node root [] ps kids none) q
   path_node p h = path_in_lem (node root [] ps kids none) p (sym (path p) ∙ h)
 
   -- and at a node of the tree, its first child, next sibling and child of a step are nodes of the tree too
   module _ {q : ℕ} {nm : List ℕ} {os : List Property} {ks rest : Nodes} (a : Among q nm os ks rest (node root [] ps kids none)) where
-    pub first_node : {r : ℕ} → first_at b n q ≡ At r → NodeIn (node root [] ps kids none) r
+    pub first_node : {r : ℕ} → first_at b n q ≡ Some r → NodeIn (node root [] ps kids none) r
     first_node h = let i = head_in ks (sym (reads b n root ps kids w a).first ∙ h) in carried i (under a i.among)
 
-    pub next_node : {r : ℕ} → next_at b n q ≡ At r → NodeIn (node root [] ps kids none) r
+    pub next_node : {r : ℕ} → next_at b n q ≡ Some r → NodeIn (node root [] ps kids none) r
     next_node h = let i = head_in rest (sym (reads b n root ps kids w a).next ∙ h) in carried i (beside a i.among)
 
-    pub child_node : (step : List ℕ) {r : ℕ} → child_at b n q step ≡ At r → NodeIn (node root [] ps kids none) r
+    pub child_node : (step : List ℕ) {r : ℕ} → child_at b n q step ≡ Some r → NodeIn (node root [] ps kids none) r
     child_node step h =
         let i = head_in (find_k step ks) (sym ((reads b n root ps kids w a).child step) ∙ h) in carried i (under a (found step ks i.among))

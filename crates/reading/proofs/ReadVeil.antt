@@ -4,7 +4,6 @@ use mathlib.Core.Path.{◌≡◌, refl, sym, ◌∙◌, ap, subst}
 use Prim.Native.Nat.{ℕ, ◌+◌}
 use native.Mathlib.Omega.{arith}
 use mathlib.Core.Bool.{Bool, true, false, cond}
-use mathlib.Core.Option.{some}
 use mathlib.Core.List.{List, [], ◌∷◌}
 use lib.ListN.{length}
 use Rattle.words.specs.Bytes.{part_of}
@@ -23,6 +22,7 @@ use Rattle.reading.specs.Veil.{Keeps, SameAt}
 use Rattle.reading.proofs.Reading.{reads, numbered}
 use Rattle.reading.proofs.Values.{same_equal, held_count, value_found, value_read}
 use Rattle.reading.proofs.Paths.{path}
+use Rattle.std.specs.Prelude.{Some}
 
 blank_length : (l : List ℕ) → length (blank l) ≡ length l
 unfolding blank
@@ -60,8 +60,8 @@ module _ (free : Free) where
   value_veil name k (x ∷ ps) = rw (veil_name x, value_veil name k ps) (go (same_bytes x.name name) refl)
     where
       go : (t : Bool) → same_bytes x.name name ≡ t
-          → cond t (some (veil free x).value) (value_of name ps) ≡ cond t (some x.value) (value_of name ps)
-      go true e = let i = same_equal x.name name e in let j : free x.at x.name ≡ false = rw i (k x.at) in ap some (veil_value x j)
+          → cond t (Some (veil free x).value) (value_of name ps) ≡ cond t (Some x.value) (value_of name ps)
+      go true e = let i = same_equal x.name name e in let j : free x.at x.name ≡ false = rw i (k x.at) in ap Some (veil_value x j)
       go false e = refl
 
   -- the first property of a name, veiled, is the first of it among the veiled ones

@@ -1,10 +1,9 @@
 -- What stands where the tokens from a place p on begin, past any FDT_NOP: its token, what it carries, and the tokens after it.
-use Rattle.std.specs.Prelude.{◌≡◌, ℕ, ◌+◌, ◌≤◌, ◌<◌, List, length}
+use Rattle.std.specs.Prelude.{◌≡◌, ℕ, ◌+◌, ◌≤◌, ◌<◌, List, length, None}
 use Rattle.words.specs.Bytes.{bytes, part_of}
 use Rattle.fdt.specs.declared.Token.TheVariants.{Begin, Prop}
 use Rattle.fdt.specs.Token.{tok_at}
 use Rattle.fdt.specs.Tree.{Property, Nodes, Tok, flat_k, lex_at}
-use Rattle.nodes.specs.declared.Found.TheVariants.{Nothing}
 use Rattle.nodes.specs.Nav.{first_kid}
 
 -- the tokens ts are read at a place from p on
@@ -43,4 +42,4 @@ pub record Row (b n : List ℕ) (t : Nodes) : Type 0 where
   pub from : ℕ
   pub end : List Tok
   pub tokens : lex_at b n from ≡ flat_k t end
-  pub closed : first_kid end ≡ Nothing
+  pub closed : first_kid end ≡ None

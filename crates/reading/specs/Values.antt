@@ -1,14 +1,12 @@
 -- "Of equal property names in a node the first counts", as a statement about a node's properties.
-use Rattle.std.specs.Prelude.{◌≡◌, ℕ, ◌+◌, cond, List, [], ◌∷◌, length}
-use Rattle.std.proofs.Math.Option.{Option, some, none as nothing}
+use Rattle.std.specs.Prelude.{◌≡◌, ℕ, ◌+◌, cond, List, [], ◌∷◌, length, Option, Some, None}
 use Rattle.words.specs.Bytes.{part_of}
 use Rattle.fdt.specs.Tree.{Property}
 use Rattle.cells.specs.declared.CellCount.{CellCount}
 use Rattle.cells.specs.declared.CellCount.TheVariants.{Absent}
 use Rattle.cells.specs.Count.{stated_by}
-use Rattle.nodes.specs.declared.Value.{Value}
-use Rattle.nodes.specs.declared.Value.TheVariants.{Here, Missing}
 use Rattle.nodes.specs.Nav.{same_bytes}
+use Rattle.fdt.specs.declared.Block.{Block}
 
 -- x is the first of these properties that has this name
 pub data FirstOf (name : List ℕ) : Property → List Property → Type 0 where
@@ -35,20 +33,20 @@ pub record ValueOf (b : List ℕ) (name : List ℕ) (ps : List Property) (at len
 
 -- the value of the first property of this name, where there is one
 unfoldable pub value_of : List ℕ → List Property → Option (List ℕ)
-value_of name [] = nothing
-value_of name (x ∷ ps) = cond (same_bytes x.name name) (some x.value) (value_of name ps)
+value_of name [] = None
+value_of name (x ∷ ps) = cond (same_bytes x.name name) (Some x.value) (value_of name ps)
 
 -- the bytes that a lookup points to
-abbrev pub held : List ℕ → Value → Option (List ℕ)
-held b (Here at len) = some (part_of b at len)
-held b Missing = nothing
+abbrev pub held : List ℕ → Option Block → Option (List ℕ)
+held b (Some v) = Some (part_of b v.at v.len)
+held b None = None
 
 -- a value's bytes, or none where there is no value
 abbrev pub or_none : Option (List ℕ) → List ℕ
-or_none nothing = []
-or_none (some v) = v
+or_none None = []
+or_none (Some v) = v
 
 -- a node's count of cells, from the value of the property that states it
 abbrev pub count_of : Option (List ℕ) → CellCount
-count_of nothing = Absent
-count_of (some v) = stated_by v
+count_of None = Absent
+count_of (Some v) = stated_by v

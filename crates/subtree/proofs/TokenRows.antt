@@ -6,7 +6,6 @@ use Prim.Native.Nat.{ℕ, zero, suc, ◌+◌, ◌-◌, ◌≤◌}
 use native.Mathlib.Omega.{arith}
 use mathlib.Core.Bool.{Bool, true, false, cond}
 use mathlib.Core.List.{List, [], ◌∷◌}
-use mathlib.Core.Option.{some}
 use lib.ListN.{length}
 use Rattle.words.specs.Bytes.{part_of}
 use Rattle.words.proofs.BytesLaws.{cond_elim}
@@ -16,14 +15,14 @@ use Rattle.fdt.specs.Token.{tok_at}
 use Rattle.fdt.specs.Tree.{Property, Nodes, none, node, count, Tok, begin, ended, prop, fin, bad, flat_p, flat_k, taken, lex_at}
 use Rattle.fdt.proofs.TokLaws.{Ahead, ahead, ahead_of}
 use Rattle.fdt.proofs.LexLaws.{lex_at_lem}
-use Rattle.nodes.specs.declared.Found.TheVariants.{At, Nothing}
-use Rattle.nodes.specs.declared.Value.TheVariants.{Here}
 use Rattle.nodes.specs.Nav.{same_bytes, matches, content_at, name_at, first_kid, skip_t, drop_p, lookup, find_t}
 use Rattle.nodes.specs.OnTree.{find_k}
 use Rattle.reading.specs.Values.{value_of, held}
 use Rattle.reading.proofs.Places.{node_at_lem, property_at, end_at_lem, past_name, past_nodes}
 use Rattle.reading.proofs.Tokens.{skip_inside}
 use Rattle.subtree.specs.Subtree.{props_t, nodes_t, node_at, at, Stands}
+use Rattle.std.specs.Prelude.{Some, None}
+use Rattle.fdt.specs.Opening.{block}
 
 -- ── Past properties, and past a node's end: never more tokens than before ──
 drop_short : (ts : List Tok) → length (drop_p ts) ≤ length ts
@@ -120,7 +119,7 @@ module _ (b n : List ℕ) where
   lex_few (suc f) p m =
       rw (lex_at_lem b n p) (taken_few (suc f) p (length b) (tok_at b n p) (ahead b n p) (λ q x y. lex_few f q (omega arith)))
 
-  -- the tokens past the end of a node are again those from some place on
+  -- the tokens past the end of a node are again those from Some place on
   pub skip_read : (ts : List Tok) (d p : ℕ) → lex_at b n p ≡ ts → (r : ℕ) × (lex_at b n r ≡ skip_t ts d)
   skip_read [] d p e = (p, e)
   skip_read (begin q nm ∷ ts) d p e = let a = node_at_lem b n p e in skip_read ts (suc d) a.next (sym a.tokens)
@@ -176,13 +175,13 @@ module _ (b n : List ℕ) where
       nodes_found (suc (length b)) (skip_t (lex_at b n p) 1) r.0 r.1 (omega arith)
 
   -- THE LAW: the node at q, whose content is read from p on
-  pub node_content : (q p : ℕ) → content_at b n q ≡ At p
+  pub node_content : (q p : ℕ) → content_at b n q ≡ Some p
       → node_at b n q ≡ node q (name_at b n q) (props_t (lex_at b n p)) (at b n (first_kid (lex_at b n p))) (at b n (first_kid (skip_t (lex_at b n p) 1)))
   unfolding node_at
   node_content q p e = rw (e, kids_found p, rest_found p)
 
   -- where none begins there is none
-  pub node_nothing : (q : ℕ) → content_at b n q ≡ Nothing → node_at b n q ≡ none
+  pub node_nothing : (q : ℕ) → content_at b n q ≡ None → node_at b n q ≡ none
   unfolding node_at
   node_nothing q e = rw e
 
@@ -231,8 +230,8 @@ module _ (b n : List ℕ) where
       go (same_bytes x.name name) a.part (looked_up name ts a.next (sym a.tokens))
     where
       go : (t : Bool) → part_of b (x.at + 12) (length x.value) ≡ x.value → held b (lookup name ts) ≡ value_of name (props_t ts)
-          → held b (cond t (Here (x.at + 12) (length x.value)) (lookup name ts)) ≡ cond t (some x.value) (value_of name (props_t ts))
-      go true k i = ap some k
+          → held b (cond t (Some (block (x.at + 12) (length x.value))) (lookup name ts)) ≡ cond t (Some x.value) (value_of name (props_t ts))
+      go true k i = ap Some k
       go false k i = i
   looked_up name (fin ∷ ts) p e = refl
   looked_up name (bad ∷ ts) p e = refl
@@ -299,7 +298,7 @@ first_past (x ∷ ps) ts = first_past ps ts
 
 module _ (b n : List ℕ) where
   -- nodes that are written from a place on, up to tokens that begin with no node: they are the nodes there
-  pub row_is : (t : Nodes) (ts : List Tok) (p : ℕ) → lex_at b n p ≡ flat_k t ts → first_kid ts ≡ Nothing → at b n (first_kid (flat_k t ts)) ≡ t
+  pub row_is : (t : Nodes) (ts : List Tok) (p : ℕ) → lex_at b n p ≡ flat_k t ts → first_kid ts ≡ None → at b n (first_kid (flat_k t ts)) ≡ t
   row_is none ts p e h = rw h
   row_is (node q nm ps ks rest) ts p e h =
       let l = past_name b n ps p e in

@@ -1,9 +1,7 @@
 -- The node at a place of a structure block b with names in a strings block n, as a tree. The blocks need not be an accepted tree's: what
 -- stands past the first token that is none is not there. Of an accepted tree this is the tree: SubtreeLaws.opened_tree.
-use Rattle.std.specs.Prelude.{◌≡◌, ℕ, zero, suc, cond, List, [], ◌∷◌, length, get_or, eqb}
+use Rattle.std.specs.Prelude.{◌≡◌, ℕ, zero, suc, cond, List, [], ◌∷◌, length, get_or, eqb, Option, Some, None}
 use Rattle.fdt.specs.Tree.{Property, Nodes, none, node, Tok, begin, ended, prop, fin, bad, lex_at}
-use Rattle.nodes.specs.declared.Found.{Found}
-use Rattle.nodes.specs.declared.Found.TheVariants.{At, Nothing}
 use Rattle.nodes.specs.Nav.{inside, content_at, name_at, first_kid, skip_t, drop_p}
 use Rattle.nodes.specs.Path.{steps_from}
 use Rattle.nodes.specs.OnTree.{head_of, find_k, kids_of}
@@ -36,16 +34,16 @@ node_at b n q =
     node q (name_at b n q) (props_t (lex_at b n p)) (nodes_t (suc (length b)) (drop_p (lex_at b n p))) (nodes_t (suc (length b)) (drop_p (skip_t (lex_at b n p) 1))))
     (content_at b n q)
 
-abbrev pub at : List ℕ → List ℕ → Found → Nodes
-at b n (At q) = node_at b n q
-at b n Nothing = none
+abbrev pub at : List ℕ → List ℕ → Option ℕ → Nodes
+at b n (Some q) = node_at b n q
+at b n None = none
 
 -- the tree: its root is the first node
 unfoldable pub root_at : List ℕ → List ℕ → Nodes
 root_at b n = at b n (first_kid (lex_at b n 0))
 
 -- a node stands where one was found
-abbrev pub Stands : List ℕ → List ℕ → Found → Type 0
+abbrev pub Stands : List ℕ → List ℕ → Option ℕ → Type 0
 Stands b n f = head_of (at b n f) ≡ f
 
 -- ── On the tree ──

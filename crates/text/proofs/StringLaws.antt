@@ -5,7 +5,6 @@ use Prim.Native.Nat.{ℕ, ◌+◌, ◌-◌, ◌≤◌, ◌<◌}
 use native.Mathlib.Omega.{arith}
 use mathlib.Core.Bool.{Bool, true, false, cond, ◌||◌}
 use mathlib.Core.List.{List, [], ◌∷◌, ◌++◌}
-use mathlib.Core.Option.{some}
 use mathlib.Core.Logic.{◌↔◌}
 use lib.ListN.{length, take, drop, length-drop}
 use lib.Seq.{take-take, drop-drop}
@@ -13,15 +12,13 @@ use lib.Dec.{eqb, leb}
 use borrow.Author.Tests.{leb-true, leb-false, eqb-true, eq-eqb}
 use Rattle.words.specs.Bytes.{part_of}
 use Rattle.words.proofs.BytesLaws.{cond_elim, never, part_is, part_none, part_length}
-use Rattle.cells.specs.declared.StringValue.{StringValue}
-use Rattle.cells.specs.declared.StringValue.TheVariants.{Ends, Endless}
 use Rattle.cells.specs.Text.{text_of}
 use Rattle.cells.proofs.TextLaws.{text_ends}
-use Rattle.nodes.specs.declared.Value.{Value}
-use Rattle.nodes.specs.declared.Value.TheVariants.{Here, Missing}
 use Rattle.nodes.specs.Nav.{same_bytes, prop_at}
 use Rattle.reading.specs.Values.{held}
 use Rattle.text.specs.Strings.{up_to, string_in, ends_by, string_by, string_at, starts_with, contains}
+use Rattle.std.specs.Prelude.{Option, Some, None}
+use Rattle.fdt.specs.declared.Block.{Block}
 
 -- ── The string of a property ──
 -- a part cut short is the shorter part
@@ -44,13 +41,13 @@ pub string_held : (b n : List ℕ) (q : ℕ) (name : List ℕ) → held b (strin
 unfolding string_at string_in
 string_held b n q name = go (prop_at b n q name)
   where
-    ends : (at len : ℕ) (t : StringValue) → text_of (part_of b at len) ≡ t → held b (ends_by at t) ≡ up_to (part_of b at len) t
-    ends at len (Ends e) q = ap some (part_front b at len e ((text_ends (part_of b at len) e).0 q).0)
-    ends at len Endless q = refl
+    ends : (at len : ℕ) (t : Option ℕ) → text_of (part_of b at len) ≡ t → held b (ends_by at t) ≡ up_to (part_of b at len) t
+    ends at len (Some e) q = ap Some (part_front b at len e ((text_ends (part_of b at len) e).0 q).0)
+    ends at len None q = refl
 
-    go : (v : Value) → held b (string_by b v) ≡ string_in (held b v)
-    go (Here at len) = ends at len (text_of (part_of b at len)) refl
-    go Missing = refl
+    go : (v : Option Block) → held b (string_by b v) ≡ string_in (held b v)
+    go (Some v) = ends v.at v.len (text_of (part_of b v.at v.len)) refl
+    go None = refl
 
 -- ── One string in another ──
 starts_take : (v w : List ℕ) → starts_with v w ≡ same_bytes (take (length w) v) w

@@ -4,20 +4,20 @@
 ghost use Rattle.std.specs.Prelude.{◌≡◌};
 ghost use Rattle.text.specs.Strings.{string_at, contains};
 
-use cells::StringValue;
-use nodes::Value;
+use fdt::Block;
 
 // The string in a property of the node at a place: where it stands and how long it is; nothing where no zero byte ends it.
-pub fn string_of<'a>(structure: &'a [u8], strings: &'a [u8], node: usize, name: &'a [u8]) -> Value
+pub fn string_of<'a>(
+    structure: &'a [u8],
+    strings: &'a [u8],
+    node: usize,
+    name: &'a [u8],
+) -> Option<Block>
     ensures { result ≡ string_at structure.now strings.now node name.now }
 {
-    let Value::Here(at, len) = nodes::getprop(structure, strings, node, name) else {
-        return Value::Missing;
-    };
-    match cells::text(words::part(structure, at, len)) {
-        StringValue::Ends(end) => Value::Here(at, end),
-        StringValue::Endless => Value::Missing,
-    }
+    let value = nodes::getprop(structure, strings, node, name)?;
+    let len = cells::text(words::part(structure, value.at, value.len))?;
+    Some(Block { at: value.at, len })
 }
 
 // Whether some part of a string is another.
@@ -28,12 +28,10 @@ pub fn holds<'a>(text: &'a [u8], part: &'a [u8]) -> bool
         return false;
     }
     let last = text.len() - part.len();
-    let mut i: usize = 0;
-    while i <= last {
+    for i in 0..=last {
         if nodes::same(words::part(text, i, part.len()), part) {
             return true;
         }
-        i += 1;
     }
     false
 }

@@ -3,7 +3,6 @@
 use mathlib.Core.Path.{◌≡◌, refl, sym, ◌∙◌, ap}
 use mathlib.Core.Bool.{false}
 use mathlib.Core.List.{List, [], ◌∷◌}
-use mathlib.Core.Option.{some, none as nothing}
 use Prim.Native.Nat.{ℕ, suc, ◌+◌, ◌-◌, ◌^◌, ◌≤◌, ◌<◌, max}
 use native.Mathlib.Omega.{arith}
 use lib.ListN.{length}
@@ -16,10 +15,6 @@ use Rattle.cells.specs.declared.RegRow.{RegRow}
 use Rattle.cells.specs.declared.RegRow.TheVariants.{NoReg, PastReg, RegAt}
 use Rattle.cells.specs.Rows.{Table, unreadable, rows, reg_of, ranges_of, reg_row}
 use Rattle.fdt.specs.Tree.{Nodes, none, node, count, height}
-use Rattle.nodes.specs.declared.Found.{Found}
-use Rattle.nodes.specs.declared.Found.TheVariants.{At, Nothing}
-use Rattle.nodes.specs.declared.Value.{Value}
-use Rattle.nodes.specs.declared.Value.TheVariants.{Here, Missing}
 use Rattle.nodes.specs.Nav.{prop_at, first_at, next_at}
 use Rattle.nodes.specs.Path.{path_at}
 use Rattle.nodes.specs.Cells.{count_at, address_cells, size_cells}
@@ -34,20 +29,21 @@ use Rattle.translation.specs.declared.Sought.{Sought}
 use Rattle.translation.specs.declared.Sought.TheVariants.{FirstReg}
 use Rattle.translation.specs.declared.Search.{Search}
 use Rattle.translation.specs.declared.Search.TheVariants.{Gone, Lost, On}
-use Rattle.translation.specs.declared.Translated.{Translated}
-use Rattle.translation.specs.declared.Translated.TheVariants.{Found as Reached, NoAddress}
 use Rattle.subtree.specs.Names.{reg_name, ranges_name}
-use Rattle.translation.specs.Translation.{address_of, size_of, over, arrived, trail, first_row, start_of, translated}
+use Rattle.translation.specs.Translation.{address_of, size_of, over, arrived, trail, first_row, start_of, translated, reached}
 use Rattle.translation.specs.Search.{begun_at, via_window, up_through, or_on, tried, searched, finished, Begins, row_left, node_left}
 use Rattle.translation.proofs.SearchLaws.{tried_on, on_count, search_is}
+use Rattle.std.specs.Prelude.{Option, Some, None}
+use Rattle.fdt.specs.declared.Block.{Block}
+use Rattle.translation.specs.declared.Translated.{Translated}
 
 -- ── The end ──
 module _ (f : Search) (x size k : ℕ) (e : f ≡ Gone x size k) where
-  pub ends_below : x + reach size ≤ 2 ^ 64 - 1 → Reached (record { address = x; size = size }) k ≡ finished f
+  pub ends_below : x + reach size ≤ 2 ^ 64 - 1 → Some (reached (record { address = x; size = size }) k) ≡ finished f
   unfolding finished arrived
   ends_below h = rw (e, le-leb (x + reach size) (2 ^ 64 - 1) h)
 
-  pub ends_past : 2 ^ 64 - 1 < x + reach size → NoAddress ≡ finished f
+  pub ends_past : 2 ^ 64 - 1 < x + reach size → None ≡ finished f
   unfolding finished arrived
   ends_past h = rw (e, lt-leb (x + reach size) (2 ^ 64 - 1) h)
 
@@ -72,20 +68,20 @@ row_begun_lem (rows (r ∷ l)) k = refl
 
 module _ (b n : List ℕ) (q : ℕ) where
   -- v is what the lookup gave, w the bytes there
-  there : (name w : List ℕ) (v : Value) (at len : ℕ) → v ≡ prop_at b n q name → v ≡ Here at len → w ≡ part_of b at len
-      → value_of name (props_of (node_at b n q)) ≡ some w
-  there name w v at len e i h = sym (value_at b n q name) ∙ ap (held b) (sym e ∙ i) ∙ ap some (sym h)
+  there : (name w : List ℕ) (v : Option Block) (p : Block) → v ≡ prop_at b n q name → v ≡ Some p → w ≡ part_of b p.at p.len
+      → value_of name (props_of (node_at b n q)) ≡ Some w
+  there name w v p e i h = sym (value_at b n q name) ∙ ap (held b) (sym e ∙ i) ∙ ap Some (sym h)
 
-  absent : (name : List ℕ) (v : Value) → v ≡ prop_at b n q name → v ≡ Missing → value_of name (props_of (node_at b n q)) ≡ nothing
+  absent : (name : List ℕ) (v : Option Block) → v ≡ prop_at b n q name → v ≡ None → value_of name (props_of (node_at b n q)) ≡ None
   absent name v e i = sym (value_at b n q name) ∙ ap (held b) (sym e ∙ i)
 
   -- the target: its first row of `reg`, by its parent's cells
-  module _ (s : Sought) (a c : CellCount) (k : ℕ) (first : s ≡ FirstReg) (v : Value) (e : v ≡ prop_at b n q reg_name) where
-    pub begins_row : (w : List ℕ) (at len : ℕ) (row r : RegRow) → v ≡ Here at len → w ≡ part_of b at len → row ≡ reg_row (reg_of a c w) 0 → row ≡ r
+  module _ (s : Sought) (a c : CellCount) (k : ℕ) (first : s ≡ FirstReg) (v : Option Block) (e : v ≡ prop_at b n q reg_name) where
+    pub begins_row : (w : List ℕ) (p : Block) (row r : RegRow) → v ≡ Some p → w ≡ part_of b p.at p.len → row ≡ reg_row (reg_of a c w) 0 → row ≡ r
         → row_begun r k ≡ begun_at (start_of s a c (value_of reg_name (props_of (node_at b n q)))) k
-    begins_row w at len row r i h j l = rw (first, there reg_name w v at len e i h, ← l, j) (row_begun_lem (reg_of a c w) k)
+    begins_row w p row r i h j l = rw (first, there reg_name w v p e i h, ← l, j) (row_begun_lem (reg_of a c w) k)
 
-    pub begins_not : v ≡ Missing → Lost ≡ begun_at (start_of s a c (value_of reg_name (props_of (node_at b n q)))) k
+    pub begins_not : v ≡ None → Lost ≡ begun_at (start_of s a c (value_of reg_name (props_of (node_at b n q)))) k
     begins_not i = rw (first, absent reg_name v e i)
 
   -- a count of cells that the node states for its children
@@ -93,35 +89,35 @@ module _ (b n : List ℕ) (q : ℕ) where
   stated name own e = e ∙ count_at_lem b n q name
 
   -- the search from the first child on, by the cells that the node states, is the search among its children
-  below : (target : ℕ) (s : Sought) (k : ℕ) (f : Found) (a c : CellCount) (inner : Search) → f ≡ first_at b n q → a ≡ count_at b n q address_cells
+  below : (target : ℕ) (s : Sought) (k : ℕ) (f : Option ℕ) (a c : CellCount) (inner : Search) → f ≡ first_at b n q → a ≡ count_at b n q address_cells
       → c ≡ count_at b n q size_cells → inner ≡ searched target s (at b n f) a c k
       → inner ≡ searched target s (kids_of (node_at b n q)) (address_of (props_of (node_at b n q))) (size_of (props_of (node_at b n q))) k
   unfolding address_of size_of
   below target s k f a c inner e i j h = rw (kids_at b n q, ← e, ← stated address_cells a i, ← stated size_cells c j) h
 
   -- a bus: its `ranges`, by its own cells and its parent's
-  module _ (up : CellCount) (x size : ℕ) (v : Value) (e : v ≡ prop_at b n q ranges_name) where
-    pub over_here : (w : List ℕ) (at len : ℕ) (a c : CellCount) (r : Window) → v ≡ Here at len → w ≡ part_of b at len
+  module _ (up : CellCount) (x size : ℕ) (v : Option Block) (e : v ≡ prop_at b n q ranges_name) where
+    pub over_here : (w : List ℕ) (p : Block) (a c : CellCount) (r : Window) → v ≡ Some p → w ≡ part_of b p.at p.len
         → a ≡ count_at b n q address_cells → c ≡ count_at b n q size_cells → r ≡ window false (ranges_of a up c w) x size
         → r ≡ over (props_of (node_at b n q)) up x size
     unfolding over address_of size_of
-    over_here w at len a c r i h j l o = rw (there ranges_name w v at len e i h, ← stated address_cells a j, ← stated size_cells c l) o
+    over_here w p a c r i h j l o = rw (there ranges_name w v p e i h, ← stated address_cells a j, ← stated size_cells c l) o
 
-    pub over_not : v ≡ Missing → Nowhere ≡ over (props_of (node_at b n q)) up x size
+    pub over_not : v ≡ None → Nowhere ≡ over (props_of (node_at b n q)) up x size
     unfolding over
     over_not i = rw (absent ranges_name v e i)
 
 -- ── A node that stands ──
 module _ (q : ℕ) where
-  counted : (t : Nodes) → head_of t ≡ At q → count t ≡ suc (count (kids_of t) + count (rest_of t))
+  counted : (t : Nodes) → head_of t ≡ Some q → count t ≡ suc (count (kids_of t) + count (rest_of t))
   counted none e = never (cc)
   counted (node p nm ps kids rest) e = refl
 
-  raised : (t : Nodes) → head_of t ≡ At q → height t ≡ max (suc (height (kids_of t))) (height (rest_of t))
+  raised : (t : Nodes) → head_of t ≡ Some q → height t ≡ max (suc (height (kids_of t))) (height (rest_of t))
   raised none e = never (cc)
   raised (node p nm ps kids rest) e = refl
 
-  searched_node : (target : ℕ) (s : Sought) (a c : CellCount) (k : ℕ) (t : Nodes) → head_of t ≡ At q
+  searched_node : (target : ℕ) (s : Sought) (a c : CellCount) (k : ℕ) (t : Nodes) → head_of t ≡ Some q
       → searched target s t a c k
       ≡ or_on (tried target s q (props_of t) a c k (searched target s (kids_of t) (address_of (props_of t)) (size_of (props_of t)) (k + 1)))
       (λ m. searched target s (rest_of t) a c m)
@@ -129,13 +125,13 @@ module _ (q : ℕ) where
   searched_node target s a c k none e = never (cc)
   searched_node target s a c k (node p nm ps kids rest) e = let z : p ≡ q = cc in rw z
 
-module _ {b n : List ℕ} {q k : ℕ} (p : Begins b n (At q) k) where
+module _ {b n : List ℕ} {q k : ℕ} (p : Begins b n (Some q) k) where
   -- the number of the node itself
   pub numbered : k + 1 ≤ length b + 1
   numbered = let z = counted q (node_at b n q) p.stands in omega arith
 
   -- its children begin, and have a level less
-  pub children : (f : Found) → f ≡ first_at b n q → Begins b n f (k + 1) × (row_left (at b n f) < node_left (node_at b n q))
+  pub children : (f : Option ℕ) → f ≡ first_at b n q → Begins b n f (k + 1) × (row_left (at b n f) < node_left (node_at b n q))
   children f e =
       let z = counted q (node_at b n q) p.stands in
       let y : kids_of (node_at b n q) ≡ at b n f = kids_at b n q ∙ ap (at b n) (sym e) in
@@ -155,7 +151,7 @@ module _ (b n : List ℕ) (q target : ℕ) (s : Sought) (a c : CellCount) (k : �
   is_target r e h = rw (eq-eqb q target e) h
 
   -- o and z are the node's own cells
-  pub is_other : (f : Found) (o z : CellCount) (inner r : Search) → (q ≡ target → ⊥) → f ≡ first_at b n q → o ≡ count_at b n q address_cells
+  pub is_other : (f : Option ℕ) (o z : CellCount) (inner r : Search) → (q ≡ target → ⊥) → f ≡ first_at b n q → o ≡ count_at b n q address_cells
       → z ≡ count_at b n q size_cells → inner ≡ searched target s (at b n f) o z (k + 1)
       → r ≡ up_through (λ x size. over (props_of (node_at b n q)) a x size) inner → Tried r
   unfolding tried
@@ -164,24 +160,24 @@ module _ (b n : List ℕ) (q target : ℕ) (s : Sought) (a c : CellCount) (k : �
 -- ── The nodes in a row ──
 
 -- the search from the first of them on is the search from this one on
-pub record Goes (b n : List ℕ) (target : ℕ) (s : Sought) (a c : CellCount) (first : Found) (before : ℕ) (child : Found) (number : ℕ) : Type 0 where
+pub record Goes (b n : List ℕ) (target : ℕ) (s : Sought) (a c : CellCount) (first : Option ℕ) (before : ℕ) (child : Option ℕ) (number : ℕ) : Type 0 where
   pub begins : Begins b n child number
   pub lower : height (at b n child) ≤ height (at b n first)
   pub same : searched target s (at b n first) a c before ≡ searched target s (at b n child) a c number
 
-pub starts : {b n : List ℕ} {target : ℕ} {s : Sought} {a c : CellCount} {f : Found} {k : ℕ} → Begins b n f k → Goes b n target s a c f k f k
+pub starts : {b n : List ℕ} {target : ℕ} {s : Sought} {a c : CellCount} {f : Option ℕ} {k : ℕ} → Begins b n f k → Goes b n target s a c f k f k
 starts p = record { begins = p; lower = omega arith; same = refl }
 
-module _ {b n : List ℕ} {target : ℕ} {s : Sought} {a c : CellCount} {first : Found} {before : ℕ} {child : Found} {number : ℕ} (g : Goes b n target s a c first before child number) where
-  pub none_left : child ≡ Nothing → On number ≡ searched target s (at b n first) a c before
+module _ {b n : List ℕ} {target : ℕ} {s : Sought} {a c : CellCount} {first : Option ℕ} {before : ℕ} {child : Option ℕ} {number : ℕ} (g : Goes b n target s a c first before child number) where
+  pub none_left : child ≡ None → On number ≡ searched target s (at b n first) a c before
   unfolding searched
   none_left e = sym (rw e at g.same)
 
-  module _ (q : ℕ) (e : child ≡ At q) where
-    pub node_begins : Begins b n (At q) number × (node_left (node_at b n q) < row_left (at b n first))
+  module _ (q : ℕ) (e : child ≡ Some q) where
+    pub node_begins : Begins b n (Some q) number × (node_left (node_at b n q) < row_left (at b n first))
     node_begins =
         let f : height (node_at b n q) ≤ height (at b n first) = rw e at g.lower in
-        let i : Begins b n (At q) number = rw e at g.begins in
+        let i : Begins b n (Some q) number = rw e at g.begins in
         let z = raised q (node_at b n q) i.stands in
         (i, omega arith)
 
@@ -192,7 +188,7 @@ module _ {b n : List ℕ} {target : ℕ} {s : Sought} {a c : CellCount} {first :
           ap (λ (y : Search). or_on y (λ m. searched target s (rest_of (node_at b n q)) a c m)) (sym i ∙ h)
           ∙ sym (searched_node q target s a c number (node_at b n q) node_begins.0.stands) ∙ sym (rw e at g.same)
 
-      module _ (m : ℕ) (i : r ≡ On m) (next : Found) (j : next ≡ next_at b n q) where
+      module _ (m : ℕ) (i : r ≡ On m) (next : Option ℕ) (j : next ≡ next_at b n q) where
         after : rest_of (node_at b n q) ≡ at b n next
         after = rest_at b n q ∙ ap (at b n) (sym j)
 
@@ -222,20 +218,20 @@ module _ {b n : List ℕ} {target : ℕ} {s : Sought} {a c : CellCount} {first :
 -- ── The whole tree ──
 
 -- at the root's first child no node was tried, and there are no more nodes than bytes
-pub root_begins : {b n : List ℕ} {f : Found} (q : ℕ) → f ≡ first_at b n q → Begins b n f 0
+pub root_begins : {b n : List ℕ} {f : Option ℕ} (q : ℕ) → f ≡ first_at b n q → Begins b n f 0
 root_begins {b} {n} {f} q e = let z = few b n f in record { stands = rw e (first_stands b n q); room = omega arith }
 
-module _ (b n : List ℕ) (target : ℕ) (s : Sought) (v : Found) (e : v ≡ path_at b n (47 ∷ [])) where
+module _ (b n : List ℕ) (target : ℕ) (s : Sought) (v : Option ℕ) (e : v ≡ path_at b n (47 ∷ [])) where
   root_is : root_at b n ≡ at b n v
   unfolding path_to
   root_is = sym (path_at_lem b n (47 ∷ [])) ∙ ap (at b n) (sym e)
 
-  pub no_root : v ≡ Nothing → NoAddress ≡ translated (root_at b n) target s
+  pub no_root : v ≡ None → None ≡ translated (root_at b n) target s
   unfolding translated trail
   no_root i = rw (root_is, i)
 
-  module _ (q : ℕ) (i : v ≡ At q) (f : Found) (j : f ≡ first_at b n q) where
-    pub from_root : (a c : CellCount) (inner : Search) (r : Translated) → a ≡ count_at b n q address_cells → c ≡ count_at b n q size_cells
+  module _ (q : ℕ) (i : v ≡ Some q) (f : Option ℕ) (j : f ≡ first_at b n q) where
+    pub from_root : (a c : CellCount) (inner : Search) (r : Option Translated) → a ≡ count_at b n q address_cells → c ≡ count_at b n q size_cells
         → inner ≡ searched target s (at b n f) a c 0 → r ≡ finished inner → r ≡ translated (root_at b n) target s
     from_root a c inner r k l h o =
         rw (root_is, i, ← search_is (node_at b n q) target s, ← below b n q target s 0 f a c inner j k l h) o

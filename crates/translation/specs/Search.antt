@@ -1,9 +1,8 @@
 -- The search that finds the target and climbs on its way back, node by node and children by children, as translate_from_subtree does.
 -- SearchLaws.search_is: on every tree it gives what specs/Translation.antt says.
-use Rattle.std.specs.Prelude.{ℕ, suc, ◌+◌, ◌*◌, ◌≤◌, List, cond, length, eqb}
+use Rattle.std.specs.Prelude.{ℕ, suc, ◌+◌, ◌*◌, ◌≤◌, List, cond, length, eqb, Option, None}
 use Rattle.cells.specs.declared.CellCount.{CellCount}
 use Rattle.fdt.specs.Tree.{Property, Nodes, none, node, count, height}
-use Rattle.nodes.specs.declared.Found.{Found}
 use Rattle.nodes.specs.OnTree.{kids_of}
 use Rattle.windows.specs.declared.Window.{Window}
 use Rattle.windows.specs.declared.Window.TheVariants.{To, Nowhere, Unreadable}
@@ -13,9 +12,8 @@ use Rattle.subtree.specs.Subtree.{at, Stands}
 use Rattle.translation.specs.declared.Sought.{Sought}
 use Rattle.translation.specs.declared.Search.{Search}
 use Rattle.translation.specs.declared.Search.TheVariants.{Gone, Lost, On}
-use Rattle.translation.specs.declared.Translated.{Translated}
-use Rattle.translation.specs.declared.Translated.TheVariants.{NoAddress}
 use Rattle.translation.specs.Translation.{address_of, size_of, over, arrived, answer, Start, from, no_start, start_of}
+use Rattle.translation.specs.declared.Translated.{Translated}
 
 -- the target is found, the n-th node tried
 abbrev pub begun_at : Start → ℕ → Search
@@ -51,13 +49,13 @@ module _ (target : ℕ) (s : Sought) where
       or_on (tried q ps a c n (searched kids (address_of ps) (size_of ps) (n + 1))) (λ m. searched rest a c m)
 
 -- what the search gives in the end
-unfoldable pub finished : Search → Translated
+unfoldable pub finished : Search → Option Translated
 finished (Gone x size k) = answer (arrived size (To x)) size k
-finished Lost = NoAddress
-finished (On m) = NoAddress
+finished Lost = None
+finished (On m) = None
 
 -- what the steps of the search ask: a node stands where they look, and the count of the nodes to come does not run over
-pub record Begins (b n : List ℕ) (f : Found) (tried : ℕ) : Type 0 where
+pub record Begins (b n : List ℕ) (f : Option ℕ) (tried : ℕ) : Type 0 where
   pub stands : Stands b n f
   pub room : tried + count (at b n f) ≤ length b + 1
 

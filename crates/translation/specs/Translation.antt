@@ -1,6 +1,5 @@
 -- Translation: document 01, "Translation: through each ancestor below the root, nearest first."
-use Rattle.std.specs.Prelude.{ℕ, ◌+◌, ◌-◌, ◌^◌, List, [], ◌∷◌, false, cond, eqb, leb}
-use Rattle.std.proofs.Math.Option.{Option, some, none as nothing}
+use Rattle.std.specs.Prelude.{ℕ, ◌+◌, ◌-◌, ◌^◌, List, [], ◌∷◌, false, cond, eqb, leb, Option, Some, None}
 use Rattle.cells.specs.declared.CellCount.{CellCount}
 use Rattle.cells.specs.declared.Region.{Region}
 use Rattle.cells.specs.Rows.{Table, unreadable, rows, reg_of, ranges_of}
@@ -17,7 +16,6 @@ use Rattle.subtree.specs.Subtree.{props_of}
 use Rattle.translation.specs.declared.Sought.{Sought}
 use Rattle.translation.specs.declared.Sought.TheVariants.{Given, FirstReg}
 use Rattle.translation.specs.declared.Translated.{Translated}
-use Rattle.translation.specs.declared.Translated.TheVariants.{Found, NoAddress}
 
 -- the counts of cells that a node with these properties states for its children
 unfoldable pub address_of : List Property → CellCount
@@ -42,8 +40,8 @@ trail q (node p nm ps kids rest) above = cond (eqb p q) (ps ∷ above) (or_else 
 -- a bus with these properties, below a parent with such address cells. "No `ranges` or an unreadable one: none. Empty: unchanged. Else the
 -- first range .."
 abbrev pub over_bus : Option (List ℕ) → CellCount → CellCount → CellCount → ℕ → ℕ → Window
-over_bus nothing own up length address size = Nowhere
-over_bus (some v) own up length address size = window false (ranges_of own up length v) address size
+over_bus None own up length address size = Nowhere
+over_bus (Some v) own up length address size = window false (ranges_of own up length v) address size
 
 unfoldable pub over : List Property → CellCount → ℕ → ℕ → Window
 over bus up address size = over_bus (value_of ranges_name bus) (address_of bus) up (size_of bus) address size
@@ -82,17 +80,20 @@ first_row (rows (r ∷ l)) = from r
 -- what is translated: the region that is given, or the target's "first `reg` entry". "`reg` uses the parent's cells"
 abbrev pub start_of : Sought → CellCount → CellCount → Option (List ℕ) → Start
 start_of (Given r) a c v = from r
-start_of FirstReg a c nothing = no_start
-start_of FirstReg a c (some v) = first_row (reg_of a c v)
+start_of FirstReg a c None = no_start
+start_of FirstReg a c (Some v) = first_row (reg_of a c v)
 
 -- "A found address comes with the number of nodes tried"
-abbrev pub answer : Window → ℕ → ℕ → Translated
-answer (To x) size k = Found (record { address = x; size = size }) k
-answer Nowhere size k = NoAddress
-answer Unreadable size k = NoAddress
+abbrev pub reached : Region → ℕ → Translated
+reached r k = record { region = r; tried = k }
 
-abbrev pub from_start : Start → List (List Property) → ℕ → Translated
-from_start no_start above k = NoAddress
+abbrev pub answer : Window → ℕ → ℕ → Option Translated
+answer (To x) size k = Some (reached (record { address = x; size = size }) k)
+answer Nowhere size k = None
+answer Unreadable size k = None
+
+abbrev pub from_start : Start → List (List Property) → ℕ → Option Translated
+from_start no_start above k = None
 from_start (from r) above k = answer (climbed above r.address r.size) r.size k
 
 abbrev pub parent_of : List (List Property) → List Property
@@ -100,15 +101,15 @@ parent_of [] = []
 parent_of (ps ∷ above) = ps
 
 -- "A target that is no node below the root: none."
-abbrev pub along_trail : List (List Property) → Sought → ℕ → Translated
-along_trail [] s k = NoAddress
+abbrev pub along_trail : List (List Property) → Sought → ℕ → Option Translated
+along_trail [] s k = None
 along_trail (own ∷ above) s k = from_start (start_of s (address_of (parent_of above)) (size_of (parent_of above)) (value_of reg_name own)) above k
 
 -- "the target's place in document order, the root's first child being 1"
-unfoldable pub translated : Nodes → ℕ → Sought → Translated
+unfoldable pub translated : Nodes → ℕ → Sought → Option Translated
 translated t target s = along_trail (trail target (kids_of t) (props_of t ∷ [])) s (number_in (order (kids_of t) []) target 1)
 
 -- the number that a caller gets. "A failure gives 0."
-abbrev pub tried_number : Translated → ℕ
-tried_number (Found r k) = k
-tried_number NoAddress = 0
+abbrev pub tried_number : Option Translated → ℕ
+tried_number (Some t) = t.tried
+tried_number None = 0

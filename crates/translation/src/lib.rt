@@ -2,8 +2,7 @@
 // the target, the other runs over its children; the levels that are left fall.
 #![tactic(auto)]
 
-ghost use Rattle.std.specs.Prelude.{◌≡◌, ◌+◌};
-ghost use Rattle.nodes.specs.declared.Found.TheVariants.{At};
+ghost use Rattle.std.specs.Prelude.{◌≡◌, ◌+◌, Some};
 ghost use Rattle.nodes.specs.OnTree.{kids_of};
 ghost use Rattle.subtree.specs.Names.{reg_name};
 ghost use Rattle.subtree.specs.Subtree.{node_at, at, root_at, props_of};
@@ -12,7 +11,6 @@ ghost use Rattle.translation.specs.Search.{begun_at, up_through, tried, searched
 ghost use Rattle.reading.specs.Values.{value_of};
 
 use cells::{CellCount, RegRow, Region};
-use nodes::{Found, Value};
 use windows::Window;
 
 // What is translated: a given region of the target, or the first entry of its `reg`.
@@ -22,21 +20,20 @@ pub enum Sought {
     FirstReg,
 }
 
-// The region at its translated address, with the number of nodes tried; or none.
+// The region at its translated address, with the number of nodes tried.
 #[derive(Clone, Copy)]
-pub enum Translated {
-    Found(Region, usize),
-    NoAddress,
+pub struct Translated {
+    pub region: Region,
+    pub tried: usize,
 }
 
-impl Translated {
-    pub fn number(self) -> usize
-        ensures { result ≡ tried_number self }
-    {
-        match self {
-            Translated::Found(_, tried) => tried,
-            Translated::NoAddress => 0,
-        }
+// How many nodes were tried; 0 where there is no address.
+pub fn number(found: Option<Translated>) -> usize
+    ensures { result ≡ tried_number found }
+{
+    match found {
+        Some(translated) => translated.tried,
+        None => 0,
     }
 }
 
@@ -64,14 +61,14 @@ fn begin_at<'a>(
     match sought {
         Sought::Given(region) => Search::Gone(region.address, region.size, number),
         Sought::FirstReg => match nodes::getprop(structure, strings, node, b"reg") {
-            Value::Here(at, len) => {
-                match cells::reg_row(words::part(structure, at, len), address, size, 0) {
+            Some(reg) => {
+                match cells::reg_row(words::part(structure, reg.at, reg.len), address, size, 0) {
                     RegRow::RegAt(region) => Search::Gone(region.address, region.size, number),
                     RegRow::PastReg => Search::Lost,
                     RegRow::NoReg => Search::Lost,
                 }
             }
-            Value::Missing => Search::Lost,
+            None => Search::Lost,
         },
     }
 }
@@ -88,13 +85,13 @@ fn over_bus<'a>(
     ensures { result ≡ over (props_of (node_at structure.now strings.now bus)) parent address size }
 {
     match nodes::getprop(structure, strings, bus, b"ranges") {
-        Value::Here(at, len) => {
-            let ranges = words::part(structure, at, len);
+        Some(value) => {
+            let ranges = words::part(structure, value.at, value.len);
             let own = nodes::address_cells(structure, strings, bus);
             let length = nodes::size_cells(structure, strings, bus);
             windows::translate_bus_address(ranges, own, parent, length, address, size)
         }
-        Value::Missing => Window::Nowhere,
+        None => Window::Nowhere,
     }
 }
 
@@ -133,7 +130,7 @@ fn translate_from_subtree<'a>(
     sought: Sought,
     before: usize,
 ) -> Search
-    requires { Begins structure.now strings.now (At node) before }
+    requires { Begins structure.now strings.now (Some node) before }
     ensures { result ≡ tried target sought node (props_of (node_at structure.now strings.now node)) address size before (searched target sought (kids_of (node_at structure.now strings.now node)) (address_of (props_of (node_at structure.now strings.now node))) (size_of (props_of (node_at structure.now strings.now node))) (before + 1)) }
 {
     if node == target {
@@ -157,7 +154,7 @@ fn translate_from_subtree<'a>(
 fn translate_from_children<'a>(
     structure: &'a [u8],
     strings: &'a [u8],
-    first: Found,
+    first: Option<usize>,
     address: CellCount,
     size: CellCount,
     target: usize,
@@ -168,13 +165,10 @@ fn translate_from_children<'a>(
     ensures { result ≡ searched target sought (at structure.now strings.now first) address size before }
 {
     let mut child = first;
-    let mut number = before;
-    loop {
-        let Found::At(node) = child else {
-            return Search::On(number);
-        };
+    let mut tried = before;
+    while let Some(node) = child {
         match translate_from_subtree(
-            structure, strings, node, address, size, target, sought, number,
+            structure, strings, node, address, size, target, sought, tried,
         ) {
             Search::Gone(to, len, found) => {
                 return Search::Gone(to, len, found);
@@ -183,29 +177,31 @@ fn translate_from_children<'a>(
                 return Search::Lost;
             }
             Search::On(passed) => {
-                number = passed;
+                tried = passed;
                 child = nodes::next_subnode(structure, strings, node);
             }
         }
     }
+    Search::On(tried)
 }
 
 // What the search gives in the end: the whole region has to lie below 2^64.
-fn finish(found: Search) -> Translated
+fn finish(found: Search) -> Option<Translated>
     ensures { result ≡ finished found }
 {
     match found {
-        Search::Gone(address, size, number) => {
+        Search::Gone(address, size, tried) => {
+            let region = Region { address, size };
             if size == 0 {
-                return Translated::Found(Region { address, size }, number);
+                return Some(Translated { region, tried });
             }
             if 0xffff_ffff_ffff_ffff - address < size - 1 {
-                return Translated::NoAddress;
+                return None;
             }
-            Translated::Found(Region { address, size }, number)
+            Some(Translated { region, tried })
         }
-        Search::Lost => Translated::NoAddress,
-        Search::On(_) => Translated::NoAddress,
+        Search::Lost => None,
+        Search::On(_) => None,
     }
 }
 
@@ -215,12 +211,10 @@ pub fn translate_mmio_address<'a>(
     strings: &'a [u8],
     target: usize,
     sought: Sought,
-) -> Translated
+) -> Option<Translated>
     ensures { result ≡ translated (root_at structure.now strings.now) target sought }
 {
-    let Found::At(root) = nodes::path_offset(structure, strings, b"/") else {
-        return Translated::NoAddress;
-    };
+    let root = nodes::path_offset(structure, strings, b"/")?;
     let first = nodes::first_subnode(structure, strings, root);
     let address = nodes::address_cells(structure, strings, root);
     let size = nodes::size_cells(structure, strings, root);

@@ -2,7 +2,7 @@
 -- has no x before it and is x where it is below the end, and no other place is so; a part has its length, and its bytes, numbers and
 -- parts are those of the whole at the place moved along. Assumes nothing.
 use mathlib.Core.Path.{◌≡◌, refl, sym, ◌∙◌, ap}
-use Prim.Native.Nat.{ℕ, zero, suc, ◌+◌, ◌-◌, ◌≤◌, ◌<◌}
+use Prim.Native.Nat.{ℕ, zero, suc, ◌+◌, ◌-◌, ◌≤◌, ◌<◌, max}
 use native.Mathlib.Omega.{arith}
 use mathlib.Core.List.{List, []}
 use mathlib.Core.Bool.{Bool, true, false, cond}
@@ -114,6 +114,22 @@ module _ (x : ℕ) (s : List ℕ) (at : ℕ) where
 
   pub finds : {r : ℕ} → r ≡ first_byte x s at → Finds x s at r
   finds e = record { is = e; from = rw e first_ge; upto = λ h. rw e (first_le h) }
+
+-- where none is found from a place on: a place past the end is its own answer, and else the end is
+pub finds_none : (x : ℕ) (s : List ℕ) (at i : ℕ) → first_byte x s at ≡ first_byte x s i → length s ≤ i → (at ≤ length s → i ≤ length s)
+    → Finds x s at (max at (length s))
+finds_none x s at i e l u = finds x s at (go (ltb (length s) at) refl)
+  where
+    go : (b : Bool) → ltb (length s) at ≡ b → max at (length s) ≡ first_byte x s at
+    go true t =
+        let h : length s < at = ltb-true _ _ t in
+        let q = first_none x s at (omega arith) in
+        omega arith
+    go false t =
+        let h : at ≤ length s = ltb-false _ _ t in
+        let k = u h in
+        let q = e ∙ first_none x s i l in
+        omega arith
 
 -- ── Parts ──
 pub bytes_length : (s : List ℕ) (a b : ℕ) → b ≤ length s → length (bytes s a b) ≡ b - a

@@ -101,14 +101,12 @@ pub fn le64(s: &[u8], at: usize) -> u64
 pub fn byte_from(s: &[u8], at: usize, x: u8) -> usize
     ensures { Finds x s.now at result }
 {
-    let mut i = at;
-    while i < s.len() {
+    for i in at..s.len() {
         if s[i] == x {
             return i;
         }
-        i += 1;
     }
-    i
+    at.max(s.len())
 }
 
 // A part of a slice, or the empty part where the slice does not have it whole.

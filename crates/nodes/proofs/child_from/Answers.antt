@@ -12,7 +12,7 @@ overflow_add-q c =
 pub returns-then-is_step : goal.returns-then-is_step
 returns-then-is_step c =
     let w = subst (KidIs _ _ _) c.in-Node.is c.next_kid.ensures in
-    (_, c.loop-q.invariant ∙ find_here _ _ _ _ _ _ _ w _ c.part.ensures (sym c.is_step.ensures ∙ c.if-is_step.true))
+    (_, _, c.loop-q.invariant ∙ find_here _ _ _ _ _ _ _ w _ c.part.ensures (sym c.is_step.ensures ∙ c.if-is_step.true))
 
 pub loop-q-smaller : goal.loop-q-smaller
 loop-q-smaller c =

@@ -4,10 +4,10 @@ use Rattle.cells.specs.Count.{stated_by}
 use Rattle.nodes.specs.Cells.{count_at}
 use Rattle.nodes.proofs.count_of.Goals as goal
 
-pub returns-in-Here : goal.returns-in-Here
+pub returns-in-Some : goal.returns-in-Some
 unfolding count_at
-returns-in-Here c = rw (← c.getprop.ensures, c.in-Here.is) (c.stated.ensures ∙ ap stated_by c.part.ensures)
+returns-in-Some c = rw (← c.getprop.ensures, c.in-Some.is) (c.stated.ensures ∙ ap stated_by c.part.ensures)
 
-pub returns-in-Missing : goal.returns-in-Missing
+pub returns-in-None : goal.returns-in-None
 unfolding count_at
-returns-in-Missing c = rw (← c.getprop.ensures, c.in-Missing.is)
+returns-in-None c = rw (← c.getprop.ensures, c.in-None.is)

@@ -2,10 +2,10 @@
 use Rattle.nodes.specs.Nav.{prop_at}
 use Rattle.nodes.proofs.getprop.Goals as goal
 
-pub returns-in_default : goal.returns-in_default
+pub returns-in_err-p : goal.returns-in_err-p
 unfolding prop_at
-returns-in_default c = rw (← c.content_of.ensures, c.in_default.is)
+returns-in_err-p c = rw (← c.content_of.ensures, c.in_err-p.was) c.from_residual.ensures
 
 pub returns : goal.returns
 unfolding prop_at
-returns c = rw (← c.content_of.ensures, c.in-At.is) c.prop_from.ensures
+returns c = rw (← c.content_of.ensures, c.in_ok-p.was) c.prop_from.ensures

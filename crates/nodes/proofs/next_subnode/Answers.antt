@@ -3,10 +3,10 @@ use mathlib.Core.Path.{◌∙◌, ap}
 use Rattle.nodes.specs.Nav.{first_kid, next_at}
 use Rattle.nodes.proofs.next_subnode.Goals as goal
 
-pub returns-in_default : goal.returns-in_default
+pub returns-in_err-p : goal.returns-in_err-p
 unfolding next_at
-returns-in_default c = rw (← c.content_of.ensures, c.in_default.is)
+returns-in_err-p c = rw (← c.content_of.ensures, c.in_err-p.was) c.from_residual.ensures
 
 pub returns : goal.returns
 unfolding next_at
-returns c = rw (← c.content_of.ensures, c.in-At.is) (c.kid_from.ensures ∙ ap first_kid c.skip.ensures.is)
+returns c = rw (← c.content_of.ensures, c.in_ok-p.was) (c.kid_from.ensures ∙ ap first_kid c.skip.ensures.is)

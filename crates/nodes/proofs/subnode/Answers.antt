@@ -1,21 +1,12 @@
 -- `nodes::subnode` meets its contract: where a node begins, the first child of the step after its name. Assumes nothing.
-use mathlib.Core.Path.{sym, ◌∙◌, ap}
 use Rattle.nodes.specs.Nav.{child_at}
-use Rattle.nodes.proofs.FindLaws.{placed, child_found}
+use Rattle.nodes.proofs.FindLaws.{child_found}
 use Rattle.nodes.proofs.subnode.Goals as goal
 
-pub returns-in_default : goal.returns-in_default
+pub returns-in_err-p : goal.returns-in_err-p
 unfolding child_at
-returns-in_default c = rw (← c.content_of.ensures, c.in_default.is)
+returns-in_err-p c = rw (← c.content_of.ensures, c.in_err-p.was) c.from_residual.ensures
 
-pub returns-in-Is : goal.returns-in-Is
+pub returns : goal.returns
 unfolding child_at
-returns-in-Is c =
-    rw (← c.content_of.ensures, c.in-At.is)
-    (ap placed (sym c.in-Is.is) ∙ child_found _ _ _ _ c.child_from.result c.child_from.ensures)
-
-pub returns-in-Absent : goal.returns-in-Absent
-unfolding child_at
-returns-in-Absent c =
-    rw (← c.content_of.ensures, c.in-At.is)
-    (ap placed (sym c.in-Absent.is) ∙ child_found _ _ _ _ c.child_from.result c.child_from.ensures)
+returns c = rw (← c.content_of.ensures, c.in_ok-p.was) (child_found _ _ _ _ _ c.child_from.ensures)

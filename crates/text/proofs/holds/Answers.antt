@@ -17,5 +17,9 @@ pub loop-i-preserved : goal.loop-i-preserved
 loop-i-preserved c =
     sought_on _ _ _ c.loop-i.invariant _ _ c.part.ensures c.same.ensures c.if-same.false
 
-pub returns : goal.returns
-returns c = sought_nowhere _ _ _ c.loop-i.invariant (omega arith) (omega arith)
+pub returns-else-same : goal.returns-else-same
+returns-else-same c =
+    sought_nowhere _ _ _ (sought_on _ _ _ c.loop-i.invariant _ _ c.part.ensures c.same.ensures c.if-same.false) (omega arith) (omega arith)
+
+pub returns-else-text-part : goal.returns-else-text-part
+returns-else-text-part c = sought_nowhere _ _ _ c.loop-i.invariant (omega arith) (omega arith)

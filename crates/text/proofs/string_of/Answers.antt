@@ -1,17 +1,18 @@
--- `text::string_of` meets its contract: where the property stands, its value up to the end that is found. Assumes nothing.
+-- `text::string_of` meets its contract: the value, and where its string ends. Assumes nothing.
 use Rattle.text.specs.Strings.{string_at}
 use Rattle.text.proofs.string_of.Goals as goal
 
-pub returns-in_default : goal.returns-in_default
+pub returns-in_err-value : goal.returns-in_err-value
 unfolding string_at
-returns-in_default c = rw (← c.getprop.ensures, c.in_default.is)
+returns-in_err-value c = rw (← c.getprop.ensures, c.in_err-value.was) c.from_residual.ensures
 
-pub returns-in-Ends : goal.returns-in-Ends
+pub returns-in_err-len : goal.returns-in_err-len
 unfolding string_at
-returns-in-Ends c =
-    rw (← c.getprop.ensures, c.in-Here.is, ← c.part.ensures, ← c.text.ensures, c.in-Ends.is)
+returns-in_err-len c =
+    rw (← c.getprop.ensures, c.in_ok-value.was, ← c.part.ensures, ← c.text.ensures, c.in_err-len.was)
+    c.from_residual-in_err-len.ensures
 
-pub returns-in-Endless : goal.returns-in-Endless
+pub returns : goal.returns
 unfolding string_at
-returns-in-Endless c =
-    rw (← c.getprop.ensures, c.in-Here.is, ← c.part.ensures, ← c.text.ensures, c.in-Endless.is)
+returns c =
+    rw (← c.getprop.ensures, c.in_ok-value.was, ← c.part.ensures, ← c.text.ensures, c.in_ok-len.was)

@@ -3,9 +3,9 @@
 use Rattle.translation.proofs.StepLaws.{over_here, over_not}
 use Rattle.translation.proofs.over_bus.Goals as goal
 
-pub returns-in-Here : goal.returns-in-Here
-returns-in-Here c =
-    over_here _ _ _ _ _ _ _ c.getprop.ensures _ _ _ _ _ _ c.in-Here.is c.part-ranges.ensures c.address_cells-own.ensures c.size_cells-length.ensures c.translate_bus_address.ensures
+pub returns-in-Some : goal.returns-in-Some
+returns-in-Some c =
+    over_here _ _ _ _ _ _ _ c.getprop.ensures _ _ _ _ _ c.in-Some.is c.part-ranges.ensures c.address_cells-own.ensures c.size_cells-length.ensures c.translate_bus_address.ensures
 
-pub returns-in-Missing : goal.returns-in-Missing
-returns-in-Missing c = over_not _ _ _ _ _ _ _ c.getprop.ensures c.in-Missing.is
+pub returns-in-None : goal.returns-in-None
+returns-in-None c = over_not _ _ _ _ _ _ _ c.getprop.ensures c.in-None.is

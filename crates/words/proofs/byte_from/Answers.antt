@@ -1,5 +1,5 @@
 use mathlib.Core.Path.{sym, ◌∙◌}
-use Rattle.words.proofs.BytesLaws.{first_stop, first_step, first_none, finds}
+use Rattle.words.proofs.BytesLaws.{first_stop, first_step, finds, finds_none}
 use Rattle.words.proofs.byte_from.Goals as goal
 
 pub returns-then-s-i : goal.returns-then-s-i
@@ -15,4 +15,4 @@ loop-i-preserved c =
     first_step _ _ _ c.loop-i-test.true c.if-s-i.false
 
 pub returns : goal.returns
-returns c = finds _ _ _ (sym (c.loop-i.invariant ∙ first_none _ _ _ c.loop-i-test.false))
+returns c = rw c.max.ensures (finds_none _ _ _ _ c.loop-i.invariant c.loop-i-test.false c.loop-i.auto.i-end)
