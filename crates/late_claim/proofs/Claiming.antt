@@ -13,7 +13,7 @@ use Rattle.late_claim.proofs.Entering.{enter_at_lem}
 
 -- 0 is the number of Done and of no other answer
 pub zero_done : (a : Result Unit LateRefusal) → late_number a ≡ 0 → a ≡ Ok tt
-zero_done (Ok tt) e = refl
+zero_done (Ok _) e = refl
 zero_done (Err UnknownKind) e = absurd (omega arith)
 zero_done (Err NotLate) e = absurd (omega arith)
 zero_done (Err BadTable) e = absurd (omega arith)
@@ -22,18 +22,18 @@ zero_done (Err TooManyAreas) e = absurd (omega arith)
 
 -- what a refusal picks
 pub other : {A : Type 0} (a : Result Unit LateRefusal) → (late_number a ≡ 0 → ⊥) → (x y : A) → on_done a x y ≡ y
-other (Ok tt) f x y = absurd (f refl)
-other (Err UnknownKind) f x y = refl
-other (Err NotLate) f x y = refl
-other (Err BadTable) f x y = refl
-other (Err MapFull) f x y = refl
-other (Err TooManyAreas) f x y = refl
+other (Ok _) f x y = absurd (f refl)
+other (Err _) f x y = refl
 
 module _ (p : ℕ) (m : MemoryMap) (c : Claim) (n : ℕ) (l : List ℕ) where
   -- 1, 13 or 14
   pub late_judged : (a : Result Unit LateRefusal) → judged p c.kind n l ≡ a → (late_number a ≡ 0 → ⊥) → late_of p m c n l ≡ unchanged m n l a
   unfolding late_of
   late_judged a e f = rw e (other a f (enter_of p m c n l) (unchanged m n l a))
+
+  pub late_judged_no : (r : LateRefusal) → judged p c.kind n l ≡ Err r → late_of p m c n l ≡ unchanged m n l (Err r)
+  unfolding late_of
+  late_judged_no r e = rw e
 
   -- none of these
   pub late_enters : judged p c.kind n l ≡ Ok tt → late_of p m c n l ≡ enter_of p m c n l
@@ -53,14 +53,6 @@ module _ (p : ℕ) (m : MemoryMap) (c : Claim) (n : ℕ) (l : List ℕ) where
   answer_is = go (judged p c.kind n l) (entering p m c n l)
     where
       go : (a b : Result Unit LateRefusal) → (on_done a (on_done b (entered p m c n l) (unchanged m n l b)) (unchanged m n l a)).answer ≡ on_done a b a
-      go (Ok tt) (Ok tt) = refl
-      go (Ok tt) (Err UnknownKind) = refl
-      go (Ok tt) (Err NotLate) = refl
-      go (Ok tt) (Err BadTable) = refl
-      go (Ok tt) (Err MapFull) = refl
-      go (Ok tt) (Err TooManyAreas) = refl
-      go (Err UnknownKind) b = refl
-      go (Err NotLate) b = refl
-      go (Err BadTable) b = refl
-      go (Err MapFull) b = refl
-      go (Err TooManyAreas) b = refl
+      go (Ok _) (Ok _) = refl
+      go (Ok _) (Err _) = refl
+      go (Err _) b = refl

@@ -96,18 +96,19 @@ module _ (p : ℕ) (m : MemoryMap) (c : Claim) (n : ℕ) (l : List ℕ) (done : 
       crowds_is = good_crowds p n l (span pages) check.good some
 
       pub enter_crowded : crowds (span pages) n l ≡ true → {r : Registered} → r ≡ registered p m c
-          → {a : (Result Unit LateRefusal)} → a ≡ cond (is_done r.answer) (Err TooManyAreas) (Err MapFull) → unchanged m n l a ≡ enter_of p m c n l
-      enter_crowded full {r} q {a} z = go (is_done (registered p m c).answer) refl (z ∙ ap (λ (x : Registered). cond (is_done x.answer) (Err TooManyAreas) (Err MapFull)) q)
+          → {a : LateRefusal} → a ≡ cond (is_done r.answer) TooManyAreas MapFull → unchanged m n l (Err a) ≡ enter_of p m c n l
+      enter_crowded full {r} q {a} z = go (is_done (registered p m c).answer) refl (z ∙ ap (λ (x : Registered). cond (is_done x.answer) TooManyAreas MapFull) q)
         where
           none : fits (less (span pages) (table_in n l)) l ≡ false
           none = not-true _ (sym crowds_is ∙ full)
 
-          go : (t : Bool) → is_done (registered p m c).answer ≡ t → a ≡ cond (is_done (registered p m c).answer) (Err TooManyAreas) (Err MapFull) → unchanged m n l a ≡ enter_of p m c n l
+          go : (t : Bool) → is_done (registered p m c).answer ≡ t → a ≡ cond (is_done (registered p m c).answer) TooManyAreas MapFull
+              → unchanged m n l (Err a) ≡ enter_of p m c n l
           go true u v =
-              let w : a ≡ (Err TooManyAreas) = v ∙ rw u in
+              let w : a ≡ TooManyAreas = v ∙ rw u in
               rw w (sym (enter_at_lem p m c n l (Err TooManyAreas) (entering_is true false u none)))
           go false u v =
-              let w : a ≡ (Err MapFull) = v ∙ rw u in
+              let w : a ≡ MapFull = v ∙ rw u in
               rw w (sym (enter_at_lem p m c n l (Err MapFull) (entering_is false false u none)))
 
       module _ (room : crowds (span pages) n l ≡ false) {r : Registered} (q : r ≡ registered p m c) where

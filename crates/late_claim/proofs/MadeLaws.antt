@@ -14,12 +14,8 @@ use Rattle.late_claim.specs.Late.{late_number, judged, entering, on_done, After,
 
 -- what is so of both is so of the one that an answer picks
 pub on_either : {A : Type 0} (P : A → Type 0) (a : Result Unit LateRefusal) (x y : A) → P x → P y → P (on_done a x y)
-on_either P (Ok tt) x y h k = h
-on_either P (Err UnknownKind) x y h k = k
-on_either P (Err NotLate) x y h k = k
-on_either P (Err BadTable) x y h k = k
-on_either P (Err MapFull) x y h k = k
-on_either P (Err TooManyAreas) x y h k = k
+on_either P (Ok _) x y h k = h
+on_either P (Err _) x y h k = k
 
 -- refusals "all leave map and table unchanged"
 pub refused_unchanged : (p : ℕ) (m : MemoryMap) (c : Claim) (n : ℕ) (l : List ℕ) → (late_number (late_of p m c n l).answer ≡ 0 → ⊥)

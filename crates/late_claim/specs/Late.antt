@@ -8,7 +8,7 @@ use Rattle.entry.specs.Kind.{number_of, kind_of}
 use Rattle.entry.specs.declared.Claim.{Claim}
 use Rattle.entry.specs.Claim.{rounded}
 use Rattle.memory.specs.declared.MemoryMap.{MemoryMap}
-use Rattle.memory.specs.Map.{map_of, nothing, registered}
+use Rattle.memory.specs.Map.{nothing, registered}
 use Rattle.memory.specs.Made.{Made}
 use Rattle.memory.specs.Run.{is_done}
 use Rattle.areas.specs.Interval.{Interval}
@@ -17,16 +17,18 @@ use Rattle.areas.specs.Table.{fits}
 use Rattle.lent_table.specs.Table.{table_in, good_table, table_with}
 use Rattle.lent_table.specs.Less.{less}
 use Rattle.late_claim.specs.declared.Late.{Late}
-use Rattle.late_claim.specs.declared.LateIn.{LateIn}
 
 -- "Refusals, in order: 1, 13 .., 14 .., 2, 3"; "0 is done." (document 01)
+abbrev pub late_refusal_number : LateRefusal → ℕ
+late_refusal_number UnknownKind = 1
+late_refusal_number NotLate = 13
+late_refusal_number BadTable = 14
+late_refusal_number MapFull = 2
+late_refusal_number TooManyAreas = 3
+
 abbrev pub late_number : Result Unit LateRefusal → ℕ
-late_number (Ok tt) = 0
-late_number (Err UnknownKind) = 1
-late_number (Err NotLate) = 13
-late_number (Err BadTable) = 14
-late_number (Err MapFull) = 2
-late_number (Err TooManyAreas) = 3
+late_number (Ok _) = 0
+late_number (Err r) = late_refusal_number r
 
 -- ── What is left, and what is refused ──
 -- "its areas less the rounded claim"; a claim that registers nothing takes nothing away
@@ -63,12 +65,8 @@ pub record After : Type 0 where
   pub answer : Result Unit LateRefusal
 
 abbrev pub on_done : {A : Type 0} → Result Unit LateRefusal → A → A → A
-on_done (Ok tt) x y = x
-on_done (Err UnknownKind) x y = y
-on_done (Err NotLate) x y = y
-on_done (Err BadTable) x y = y
-on_done (Err MapFull) x y = y
-on_done (Err TooManyAreas) x y = y
+on_done (Ok _) x y = x
+on_done (Err _) x y = y
 
 -- refusals "all leave map and table unchanged"
 abbrev pub unchanged : MemoryMap → ℕ → List ℕ → Result Unit LateRefusal → After
@@ -96,8 +94,10 @@ late_of p m c n l = on_done (judged p c.kind n l) (enter_of p m c n l) (unchange
 abbrev pub after : Late → List ℕ → After
 after r l = record { map = r.map; count = r.count; table = l; answer = r.answer }
 
-abbrev pub after_in : LateIn → List ℕ → List ℕ → List ℕ → List ℕ → After
-after_in r s e k l = record { map = map_of s e k r.size; count = r.count; table = l; answer = r.answer }
+-- in place: a refusal leaves as many slots in use as there were
+abbrev pub after_in : MemoryMap → ℕ → List ℕ → Result ℕ LateRefusal → After
+after_in m n l (Ok k) = record { map = m; count = k; table = l; answer = Ok tt }
+after_in m n l (Err r) = record { map = m; count = n; table = l; answer = Err r }
 
 -- what entering asks: a map made by our calls, and that 1, 13 and 14 are checked
 pub record Enters (p : ℕ) (m : MemoryMap) (kind n : ℕ) (l : List ℕ) : Type 0 where

@@ -6,6 +6,6 @@ use mathlib.Core.Path.{◌≡◌, refl}
 use mathlib.Core.Bool.{false}
 use Rattle.memory.specs.Run.{is_done}
 
-pub refused : (a : Result Unit MapRefusal) → (a ≡ Ok tt → ⊥) → is_done a ≡ false
-refused (Ok _) k = absurd (k refl)
+pub refused : (a : Result Unit MapRefusal) → ((x : Unit) → a ≡ Ok x → ⊥) → is_done a ≡ false
+refused (Ok x) k = absurd (k x refl)
 refused (Err _) k = refl

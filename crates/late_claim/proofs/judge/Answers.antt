@@ -7,10 +7,10 @@ pub returns-in_default : goal.returns-in_default
 returns-in_default c = judged_unknown 4096 _ _ _ (sym c.in_default.is ∙ c.kind_of.ensures)
 
 pub returns-then-kind-le1 : goal.returns-then-kind-le1
-returns-then-kind-le1 c = judged_never 4096 _ _ _ (sym c.in-Known.is ∙ c.kind_of.ensures) c.if-kind-le1.true
+returns-then-kind-le1 c = judged_never 4096 _ _ _ (sym c.in-Some.is ∙ c.kind_of.ensures) c.if-kind-le1.true
 
 pub returns-then-not-good_table : goal.returns-then-not-good_table
-returns-then-not-good_table c = judged_bad 4096 _ _ _ (sym c.in-Known.is ∙ c.kind_of.ensures) c.if-kind-le1.false (sym c.good_table.ensures ∙ c.if-not-good_table.true)
+returns-then-not-good_table c = judged_bad 4096 _ _ _ (sym c.in-Some.is ∙ c.kind_of.ensures) c.if-kind-le1.false (sym c.good_table.ensures ∙ c.if-not-good_table.true)
 
 pub returns : goal.returns
-returns c = judged_done 4096 _ _ _ (sym c.in-Known.is ∙ c.kind_of.ensures) c.if-kind-le1.false (sym c.good_table.ensures ∙ c.if-not-good_table.false)
+returns c = judged_done 4096 _ _ _ (sym c.in-Some.is ∙ c.kind_of.ensures) c.if-kind-le1.false (sym c.good_table.ensures ∙ c.if-not-good_table.false)
