@@ -8,17 +8,21 @@ use Prim.Native.Nat.{ℕ}
 use native.Mathlib.Omega.{arith}
 use Rattle.entry.specs.declared.Claim.{Claim}
 use Rattle.memory.specs.declared.MemoryMap.{MemoryMap}
-use Rattle.late_claim.specs.Late.{late_number, judged, entering, on_done, unchanged, entered, enter_of, late_of}
+use Rattle.late_claim.specs.Late.{late_refusal_number, late_number, judged, entering, on_done, unchanged, entered, enter_of, late_of}
 use Rattle.late_claim.proofs.Entering.{enter_at_lem}
 
--- 0 is the number of Done and of no other answer
+-- no refusal has it
+pub never_zero : (r : LateRefusal) → late_refusal_number r ≡ 0 → ⊥
+never_zero UnknownKind e = omega arith
+never_zero NotLate e = omega arith
+never_zero BadTable e = omega arith
+never_zero MapFull e = omega arith
+never_zero TooManyAreas e = omega arith
+
+-- 0 is the number of Ok and of no other answer
 pub zero_done : (a : Result Unit LateRefusal) → late_number a ≡ 0 → a ≡ Ok tt
 zero_done (Ok _) e = refl
-zero_done (Err UnknownKind) e = absurd (omega arith)
-zero_done (Err NotLate) e = absurd (omega arith)
-zero_done (Err BadTable) e = absurd (omega arith)
-zero_done (Err MapFull) e = absurd (omega arith)
-zero_done (Err TooManyAreas) e = absurd (omega arith)
+zero_done (Err r) e = absurd (never_zero r e)
 
 -- what a refusal picks
 pub other : {A : Type 0} (a : Result Unit LateRefusal) → (late_number a ≡ 0 → ⊥) → (x y : A) → on_done a x y ≡ y

@@ -2,13 +2,11 @@
 use Rattle.std.specs.Prelude.{Ok}
 use mathlib.Core.Path.{◌≡◌, refl, ap, sym, ◌∙◌}
 use mathlib.Core.List.{List, ◌∷◌}
-use Prim.Native.Nat.{ℕ, suc, ◌+◌, ◌-◌, ◌*◌, ◌/◌, ◌≤◌, ◌<◌}
+use Prim.Native.Nat.{ℕ, suc, ◌+◌, ◌-◌, ◌/◌, ◌≤◌, ◌<◌}
 use native.Mathlib.Omega.{arith}
 use lib.ListN.{length}
 use Rattle.page.specs.Round.{Page}
-use Rattle.words.specs.Little.{eight}
 use Rattle.entry.specs.declared.Claim.{Claim}
-use Rattle.entry.specs.Claim.{claim}
 use Rattle.memory.specs.declared.MemoryMap.{MemoryMap}
 use Rattle.memory.specs.Made.{Made}
 use Rattle.bootloader.specs.List.{claim_at, claims_at, claims}
@@ -32,7 +30,6 @@ module _ (p : ℕ) (m : MemoryMap) (n : ℕ) (l : List ℕ) (i : ℕ) (c : Claim
 -- ── The loop, at claim i of the k in the bytes t ──
 pub record Running (p : ℕ) (t : List ℕ) (k : ℕ) (goal : Run) (m : MemoryMap) (n : ℕ) (l : List ℕ) (size i : ℕ) : Type 0 where
   pub at : i ≤ k
-  pub bytes : k * 24 ≤ length t
   pub made : Made p m
   pub same : length l ≡ size
   pub left : late_all p m n l i (claims_at t (k - i) i) ≡ goal
@@ -40,18 +37,20 @@ pub record Running (p : ℕ) (t : List ℕ) (k : ℕ) (goal : Run) (m : MemoryMa
 pub runs : (p : ℕ) (t : List ℕ) (m : MemoryMap) (n : ℕ) (l : List ℕ) → Made p m → Running p t (length t / 24) (late_all p m n l 0 (claims t)) m n l (length l) 0
 runs p t m n l made =
     let e : length t / 24 - 0 ≡ length t / 24 = omega arith in
-    record { at = omega arith; bytes = omega arith; made = made; same = refl; left = rw e }
+    record { at = omega arith; made = made; same = refl; left = rw e }
 
 module _ {p : ℕ} {t : List ℕ} {k : ℕ} {goal : Run} {m : MemoryMap} {n : ℕ} {l : List ℕ} {size i : ℕ} (inv : Running p t k goal m n l size i) where
-  pub runs_end : k ≤ i → run m n l i (Ok tt) ≡ goal
+  pub runs_end : k ≤ i → run m n l k (Ok tt) ≡ goal
   unfolding late_all claims_at
-  runs_end h = let e : k - i ≡ 0 = omega arith in rw e at inv.left
+  runs_end h =
+      let same : i ≡ k = omega (arith, inv.at) in
+      let e : k - i ≡ 0 = omega arith in
+      rw (e, same) at inv.left
 
   -- a is what the call of claim i left
-  module _ (lt : i < k) {a : After} {x y z : ℕ} (xs : x ≡ eight t (i * 24)) (ys : y ≡ eight t (i * 24 + 8)) (zs : z ≡ eight t (i * 24 + 16))
-      (given : a ≡ late_of p m (claim x y z) n l) where
+  module _ (lt : i < k) {a : After} {c : Claim} (is : c ≡ claim_at t i) (given : a ≡ late_of p m c n l) where
     told : a ≡ late_of p m (claim_at t i) n l
-    told = rw (xs, ys, zs) at given
+    told = rw is at given
 
     turn : late_all p m n l i (claim_at t i ∷ claims_at t (k - (i + 1)) (i + 1)) ≡ goal
     unfolding claims_at
@@ -61,7 +60,6 @@ module _ {p : ℕ} {t : List ℕ} {k : ℕ} {goal : Run} {m : MemoryMap} {n : �
     runs_on g zero e =
         record {
           at = omega arith;
-          bytes = inv.bytes;
           made = rw told (late_made p m (claim_at t i) n l g inv.made);
           same = e ∙ inv.same;
           left = sym (run_on p m n l i (claim_at t i) _ a told zero) ∙ turn;

@@ -3,7 +3,6 @@ use Rattle.late_claim.specs.declared.LateRefusal.{LateRefusal}
 use Rattle.std.specs.Prelude.{◌≡◌, List, [], ◌∷◌, ◌++◌, ℕ, ◌+◌, length, Result, Ok}
 use Rattle.entry.specs.declared.Claim.{Claim}
 use Rattle.memory.specs.declared.MemoryMap.{MemoryMap}
-use Rattle.memory.specs.Map.{map_of}
 use Rattle.late_claim.specs.Late.{late_number, on_done, After, late_of}
 use Rattle.late_run.specs.declared.LateRun.{LateRun}
 use Rattle.late_run.specs.declared.LateRunIn.{LateRunIn}
@@ -36,8 +35,8 @@ late_all p m n l i (c ∷ cs) =
 abbrev pub ran : LateRun → List ℕ → Run
 ran r l = run r.map r.count l r.index r.answer
 
-abbrev pub ran_in : LateRunIn → List ℕ → List ℕ → List ℕ → List ℕ → Run
-ran_in r s e k l = run (map_of s e k r.size) r.count l r.index r.answer
+abbrev pub ran_in : LateRunIn → MemoryMap → List ℕ → Run
+ran_in r m l = run m r.count l r.index r.answer
 
 -- ── What a run means ──
 -- each of the claims is done, on what the one before it left; in the end that is m', n' and l'
