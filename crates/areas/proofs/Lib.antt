@@ -7,12 +7,10 @@ pub mod AreasLaws
 pub mod Edges
 pub mod Count
 pub mod Those
-pub mod Entries
 pub mod MadeLaws
 pub mod Cuts
 pub mod Writing
 pub mod Walking
 pub mod Gathering
 pub mod Sinking
-pub mod Copying
 pub mod Building

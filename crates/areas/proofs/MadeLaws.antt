@@ -8,7 +8,7 @@ use mathlib.Core.Logic.{◌⊎◌, inl, inr, ⊎_elim, ◌↔◌}
 use Prim.Native.Nat.{ℕ, ◌+◌, ◌≤◌, ◌<◌}
 use native.Mathlib.Omega.{arith}
 use lib.Dec.{eqb}
-use lib.ListN.{length, take}
+use lib.ListN.{length}
 use borrow.Author.Tests.{eq-eqb, ne_eqb, eqb-true, eqb-false, not-true}
 use Rattle.page.specs.Round.{top, Aligned, Page}
 use Rattle.page.proofs.Laws.{page_gap, up_aligned, down_aligned, min_of, max_of}
@@ -24,14 +24,13 @@ use Rattle.listing.specs.Listing.{held, wants, those}
 use Rattle.areas.specs.Interval.{Interval, Listed, Ascending}
 use Rattle.areas.specs.Shape.{WholePages, Shape}
 use Rattle.areas.specs.Areas.{limit_of, span, free_of, busy_of, areas_in, areas_of}
-use Rattle.areas.specs.Steps.{All, Solid, Long, entries_of}
+use Rattle.areas.specs.Steps.{All, Solid, Long}
 use Rattle.areas.proofs.Lists.{le_or_lt, Every, every_member, every_map, every_weaker}
 use Rattle.areas.proofs.SortLaws.{Off, Apart}
 use Rattle.areas.proofs.AreasLaws.{Sound, areas_ascend, areas_listed}
 use Rattle.areas.proofs.Edges.{Edged, CutTo, areas_edges}
 use Rattle.areas.proofs.Count.{areas_few}
 use Rattle.areas.proofs.Those.{entries_length, every_those, those_apart, those_listed}
-use Rattle.areas.proofs.Entries.{takes_entries}
 
 every_all : (P : Interval → Type 0) (l : List Interval) → Every P l → All P l
 every_all P [] h = tt
@@ -113,12 +112,6 @@ module _ {p : ℕ} {m : MemoryMap} (made : Made p m) where
 
   pub held_sound : Sound (held m)
   held_sound = record { solid = held_solid; apart = held_apart }
-
-  -- the held entries in the front of the three lists
-  pub held_takes : held m ≡ entries_of (take m.size m.starts) (take m.size m.ends) (take m.size m.kinds)
-  held_takes =
-      takes_entries m.starts m.ends m.kinds m.size
-      (omega (arith, made.slots.starts, made.room)) (omega (arith, made.slots.ends, made.room)) (omega (arith, made.slots.kinds, made.room))
 
   module _ (low high : Option ℕ) where
     pub areas_of_ascends : Ascending (areas_of p low high m)

@@ -6,9 +6,12 @@ use Rattle.memory.specs.declared.MemoryMap.{MemoryMap}
 use Rattle.areas.specs.Interval.{Interval}
 use Rattle.areas.specs.Areas.{areas_of}
 
+abbrev pub refusal_number : AreasRefusal → ℕ
+refusal_number TooManyAreas = 3
+
 abbrev pub built_number : Result ℕ AreasRefusal → ℕ
-built_number (Ok n) = 0
-built_number (Err TooManyAreas) = 3
+built_number (Ok _) = 0
+built_number (Err r) = refusal_number r
 
 -- ── For any form of slots ──
 
