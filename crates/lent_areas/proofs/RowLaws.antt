@@ -3,7 +3,7 @@
 use Rattle.areas.specs.declared.AreasRefusal.TheVariants.{TooManyAreas}
 use Rattle.areas.specs.declared.AreasRefusal.{AreasRefusal}
 use Rattle.std.specs.Prelude.{Option, ℕ, Result, Ok, Err}
-use mathlib.Core.Path.{◌≡◌, refl, sym, ap, ap₂, subst, ◌∙◌}
+use mathlib.Core.Path.{◌≡◌, refl, sym, ap, ap₂, ◌∙◌}
 use mathlib.Core.List.{List, [], ◌∷◌, ◌++◌, map}
 use mathlib.Core.Bool.{Bool, true, false, cond}
 use Prim.Native.Nat.{ℕ, zero, suc, ◌+◌, ◌/◌, ◌≤◌, ◌<◌}
@@ -11,17 +11,16 @@ use native.Mathlib.Omega.{arith}
 use lib.Dec.{leb}
 use lib.ListN.{length, set, take, drop, get_or, length-set, length-map, get_or-map}
 use lib.Seq.{length-take-le, take-suc, take_all, drop-cons, append_snoc, set_at, take-append-le, get_or-take}
-use borrow.Author.Tests.{le-leb, lt-leb, leb-true}
+use borrow.Author.Tests.{le-leb, lt-leb}
 use Rattle.memory.specs.declared.MemoryMap.{MemoryMap}
 use Rattle.memory.specs.Made.{Made}
 use Rattle.areas.specs.Interval.{Interval, interval}
 use Rattle.areas.specs.Areas.{areas_of}
-use Rattle.areas.specs.Table.{flat, answer_of, table_of, built_number}
+use Rattle.areas.specs.Table.{flat, answer_of, table_of}
 use Rattle.areas.proofs.MadeLaws.{areas_of_few}
 use Rattle.areas.proofs.Writing.{flat_length}
 use Rattle.lent_areas.specs.declared.MemoryArea.{MemoryArea}
-use Rattle.lent_areas.specs.declared.AreaTable.{AreaTable}
-use Rattle.lent_areas.specs.Row.{area_of, area_at, row_count, row_of, Finished}
+use Rattle.lent_areas.specs.Row.{area_of, area_at, row_answer, row_of}
 
 -- ── The row with areas stored ──
 
@@ -77,19 +76,6 @@ module _ (areas : List Interval) (row : List MemoryArea) (slots : List ℕ) (fit
       laid_front (length areas) (omega arith)
       ∙ ap (λ (l : List MemoryArea). l ++ drop (length areas) row) (take_all (length areas) (map area_of areas) (omega (arith, length-map areas area_of)))
 
--- what a finished table lays is the row that is asked for
-pub laid_finished : (areas : List Interval) (row : List MemoryArea) (t : AreaTable) → Finished areas (length row) t → laid row t.slots t.count ≡ row_of areas row
-unfolding row_count
-laid_finished areas row t d = go (leb (length areas) (length row)) refl
-  where
-    go : (b : Bool) → leb (length areas) (length row) ≡ b → laid row t.slots t.count ≡ cond b (map area_of areas ++ drop (length areas) row) row
-    go true e =
-        let count : t.count ≡ length areas = d.count ∙ ap (λ (b : Bool). cond b (length areas) 0) e in
-        ap (laid row t.slots) count
-        ∙ laid_is_row areas row t.slots (leb-true (length areas) (length row) e)
-        (subst (λ (n : ℕ). take (n + n) t.slots ≡ take (n + n) (flat areas)) count d.slots)
-    go false e = ap (laid row t.slots) (d.count ∙ ap (λ (b : Bool). cond b (length areas) 0) e)
-
 -- ── The table that the areas are built in ──
 
 pub few_areas : {p : ℕ} {m : MemoryMap} → Made p m → (low high : Option ℕ) → length (areas_of p low high m) ≤ 512
@@ -108,8 +94,12 @@ module _ (areas : List Interval) (few : length areas ≤ 512) (l : List ℕ) (si
   written = ap (λ (b : Bool). cond b (flat areas ++ drop (length areas + length areas) l) l) all_fit
 
   -- it has a slot for each of them
-  pub never_refused : (Err TooManyAreas) ≡ answer_of areas l → ⊥
-  never_refused e = let clash : ◌≡◌ {A = ℕ} 3 0 = ap built_number (e ∙ answered) in omega arith
+  pub never_refused : {r : AreasRefusal} → Err r ≡ answer_of areas l → ⊥
+  never_refused e = let clash : ◌≡◌ {A = ℕ} 1 0 = ap refused (e ∙ answered) in omega arith
+    where
+      refused : Result ℕ AreasRefusal → ℕ
+      refused (Ok _) = 0
+      refused (Err _) = 1
 
   module _ {n : ℕ} (e : Ok n ≡ answer_of areas l) where
     count_is : n ≡ length areas
@@ -117,24 +107,25 @@ module _ (areas : List Interval) (few : length areas ≤ 512) (l : List ℕ) (si
       where
         count_of : Result ℕ AreasRefusal → ℕ
         count_of (Ok k) = k
-        count_of (Err TooManyAreas) = 0
+        count_of (Err _) = 0
+
+    pub most : n ≤ 512
+    most = omega (arith, few, count_is)
 
     -- the row has fewer slots than there are areas
-    pub refuses : {room : ℕ} (l' : List ℕ) → room < n → Finished areas room (record { slots = l'; count = 0; answer = (Err TooManyAreas) })
-    unfolding row_count
-    refuses {room} l' h =
-        let over : leb (length areas) room ≡ false = lt-leb (length areas) room (omega (arith, count_is)) in
-        record { answer = rw over; count = rw over; most = omega arith; fits = omega arith; slots = refl }
+    pub refuses : (row : List MemoryArea) → length row < n → (Err TooManyAreas ≡ row_answer areas row) × (row ≡ row_of areas row)
+    refuses row h =
+        let over : leb (length areas) (length row) ≡ false = lt-leb (length areas) (length row) (omega (arith, count_is)) in
+        (rw over, rw over)
 
     -- the row has a slot for each
-    pub finishes : {room : ℕ} {l' : List ℕ} → n ≤ room → l' ≡ table_of areas l → Finished areas room (record { slots = l'; count = n; answer = Ok n })
-    unfolding row_count
-    finishes {room} h t =
-        let within : leb (length areas) room ≡ true = le-leb (length areas) room (omega (arith, count_is)) in
-        record {
-          answer = rw within (ap Ok count_is);
-          count = rw within count_is;
-          most = omega (arith, few, count_is);
-          fits = h;
-          slots = ap (take (n + n)) (t ∙ written) ∙ take-append-le (n + n) (flat areas) (drop (length areas + length areas) l) (omega (arith, flat_length areas, count_is));
-        }
+    pub finishes : (row : List MemoryArea) {l' : List ℕ} → n ≤ length row → l' ≡ table_of areas l
+        → (Ok n ≡ row_answer areas row) × (laid row l' n ≡ row_of areas row)
+    finishes row {l'} h t =
+        let within : leb (length areas) (length row) ≡ true = le-leb (length areas) (length row) (omega (arith, count_is)) in (
+          rw within (ap Ok count_is),
+          rw within (ap (laid row l') count_is
+              ∙ laid_is_row areas row l' (omega (arith, count_is))
+              (ap (take (length areas + length areas)) (t ∙ written)
+              ∙ take-append-le (length areas + length areas) (flat areas) (drop (length areas + length areas) l) (omega (arith, flat_length areas)))),
+        )

@@ -1,13 +1,12 @@
 -- The finished areas in a lent row of area records: document 01, "Areas" and "a thin build over &mut [MemoryArea] that copies the finished
 -- areas into slots and leaves the rest".
 use Rattle.areas.specs.declared.AreasRefusal.{AreasRefusal}
-use Rattle.std.specs.Prelude.{◌≡◌, ℕ, ◌+◌, ◌-◌, ◌≤◌, cond, List, map, leb, length, take, get_or, Option, Result}
+use Rattle.std.specs.Prelude.{◌≡◌, ℕ, ◌+◌, ◌-◌, List, map, length, get_or, Option, Result}
 use Rattle.memory.specs.declared.MemoryMap.{MemoryMap}
 use Rattle.areas.specs.Interval.{Interval}
 use Rattle.areas.specs.Areas.{areas_of}
-use Rattle.areas.specs.Table.{Form, answer_for, lent_after, flat}
+use Rattle.areas.specs.Table.{Form, answer_for, lent_after}
 use Rattle.lent_areas.specs.declared.MemoryArea.{MemoryArea}
-use Rattle.lent_areas.specs.declared.AreaTable.{AreaTable}
 
 -- "Areas are (base, size)"
 abbrev pub area_of : Interval → MemoryArea
@@ -28,19 +27,8 @@ pub record BuildsRow (p : ℕ) (m : MemoryMap) (low high : Option ℕ) (row row'
   pub answer : r ≡ row_answer (areas_of p low high m) row
   pub areas : row' ≡ row_of (areas_of p low high m) row
 
--- ── The steps of the code ──
+-- ── A step of the code ──
 
 -- area i of a table of numbers
 abbrev pub area_at : List ℕ → ℕ → MemoryArea
 area_at l i = record { base = get_or l (i + i) 0; size = get_or l (i + i + 1) 0 }
-
--- how many areas go into the row
-unfoldable pub row_count : List Interval → ℕ → ℕ
-row_count areas room = cond (leb (length areas) room) (length areas) 0
-
-pub record Finished (areas : List Interval) (room : ℕ) (t : AreaTable) : Type 0 where
-  pub answer : t.answer ≡ answer_for room areas
-  pub count : t.count ≡ row_count areas room
-  pub most : t.count ≤ 512
-  pub fits : t.count ≤ room
-  pub slots : take (t.count + t.count) t.slots ≡ take (t.count + t.count) (flat areas)

@@ -2,21 +2,22 @@
 -- Each entry has 2 ^ 52 pages at most, so that the count of 512 fits. Assumes nothing.
 use Rattle.std.specs.Prelude.{Option, Some, None, ℕ}
 use mathlib.Core.Path.{◌≡◌}
-use mathlib.Core.List.{List, ◌∷◌}
+use mathlib.Core.List.{List}
 use mathlib.Core.Bool.{true}
 use Prim.Native.Nat.{ℕ, suc, ◌+◌, ◌-◌, ◌*◌, ◌/◌, ◌^◌, ◌≤◌, ◌<◌}
 use native.Mathlib.Nat.{suc-mul, mul-le-mul_left, div-lt_iff_lt-mul}
 use native.Mathlib.Omega.{arith}
-use lib.ListN.{get_or}
+use lib.ListN.{length, get_or, take, drop}
 use borrow.Author.Tests.{eq-eqb, ne_eqb}
 use Rattle.entry.specs.declared.MemoryEntry.{MemoryEntry}
-use Rattle.entry.specs.Entry.{entry, overlap, meet}
+use Rattle.entry.specs.Entry.{overlap, meet}
 use Rattle.entry.proofs.EntryLaws.{Meets, some, none, meets}
 use Rattle.memory.specs.declared.MemoryMap.{MemoryMap}
-use Rattle.memory.specs.Map.{slots_as, at}
-use Rattle.listing.specs.Listing.{entries_from, those, wants}
+use Rattle.memory.specs.Map.{vacant}
+use Rattle.memory.specs.Made.{Made}
+use Rattle.listing.specs.Listing.{wants}
+use Rattle.listing.proofs.ListingLaws.{held_take, those_done, those_takes, those_leaves}
 use Rattle.areas.specs.Areas.{limit_of, free_of}
-use Rattle.areas.proofs.Those.{those_takes, those_skips}
 use Rattle.sheet.specs.Sheet.{pages_of, free_in, free_pages}
 
 -- what an entry and the limits share is nonempty
@@ -34,61 +35,55 @@ pages_few p large from to h =
     let few : (to - from) / p < suc (2 ^ 52) = (div-lt_iff_lt-mul {k = p} (omega arith)).1 (rw suc-mul (omega arith)) in
     omega arith
 
--- the Free pages of the entries from slot i up to slot n
-pub togo : ℕ → MemoryEntry → List ℕ → List ℕ → List ℕ → ℕ → ℕ → ℕ
-togo p limits ss es ks n i = free_in p limits (free_of (entries_from (slots_as ss es ks) (n - i) i))
+-- the Free pages of the entries from index i on
+pub togo : ℕ → MemoryEntry → List MemoryEntry → ℕ → ℕ
+togo p limits es i = free_in p limits (free_of (drop i es))
 
-pub record Counting (p : ℕ) (limits : MemoryEntry) (ss es ks : List ℕ) (n pages i : ℕ) : Type 0 where
-  pub slot : i ≤ n
+pub record Counting (p : ℕ) (limits : MemoryEntry) (es : List MemoryEntry) (pages i : ℕ) : Type 0 where
+  pub slot : i ≤ length es
   pub few : pages ≤ i * 2 ^ 52
-  pub sum : pages + togo p limits ss es ks n i ≡ free_in p limits (free_of (entries_from (slots_as ss es ks) n 0))
+  pub sum : pages + togo p limits es i ≡ free_in p limits (free_of es)
 
-pub begins : (p : ℕ) (limits : MemoryEntry) (ss es ks : List ℕ) (n : ℕ) → Counting p limits ss es ks n 0 0
+pub begins : (p : ℕ) (limits : MemoryEntry) (es : List MemoryEntry) → Counting p limits es 0 0
 unfolding togo
-begins p limits ss es ks n =
-    let all : n - 0 ≡ n = omega arith in
-    record { slot = omega arith; few = omega arith; sum = rw all (omega arith) }
+begins p limits es = record { slot = omega arith; few = omega arith; sum = omega arith }
 
-module _ {p : ℕ} {limits : MemoryEntry} {ss es ks : List ℕ} {n pages i : ℕ} (inv : Counting p limits ss es ks n pages i) where
-  none_left : n ≤ i → togo p limits ss es ks n i ≡ 0
-  unfolding togo free_in those entries_from
-  none_left h = let z : n - i ≡ 0 = omega arith in rw z
+module _ {p : ℕ} {limits : MemoryEntry} {es : List MemoryEntry} {pages i : ℕ} (inv : Counting p limits es pages i) where
+  none_left : length es ≤ i → togo p limits es i ≡ 0
+  unfolding togo free_in
+  none_left h = rw (those_done (wants 1 true) es i h)
 
   -- after the last entry
-  pub ends : n ≤ i → pages ≡ free_in p limits (free_of (entries_from (slots_as ss es ks) n 0))
+  pub ends : length es ≤ i → pages ≡ free_in p limits (free_of es)
   ends h = omega (arith, none_left h, inv.sum)
 
-  module _ (lt : i < n) where
-    next : entries_from (slots_as ss es ks) (n - i) i ≡ at (slots_as ss es ks) i ∷ entries_from (slots_as ss es ks) (n - (i + 1)) (i + 1)
-    unfolding entries_from
-    next = let s : n - i ≡ suc (n - (i + 1)) = omega arith in rw s
-
+  module _ (lt : i < length es) where
     -- where the entry at i has so many pages to count
-    step : {pages' : ℕ} (more : ℕ) → togo p limits ss es ks n i ≡ more + togo p limits ss es ks n (i + 1) → more ≤ 2 ^ 52 → pages' ≡ pages + more
-        → Counting p limits ss es ks n pages' (i + 1)
+    step : {pages' : ℕ} (more : ℕ) → togo p limits es i ≡ more + togo p limits es (i + 1) → more ≤ 2 ^ 52 → pages' ≡ pages + more
+        → Counting p limits es pages' (i + 1)
     step more eq h e = record { slot = omega arith; few = omega (arith, inv.few); sum = omega (arith, inv.sum) }
 
     -- an entry that is not Free
-    pub passes : {pages' : ℕ} → (get_or ks i 0 ≡ 1 → ⊥) → pages' ≡ pages → Counting p limits ss es ks n pages' (i + 1)
-    unfolding togo at
-    passes f e = step 0 (rw (next, those_skips (wants 1 true) (at (slots_as ss es ks) i) (entries_from (slots_as ss es ks) (n - (i + 1)) (i + 1)) (ne_eqb (get_or ks i 0) 1 f)) (omega arith)) (omega arith) (omega arith)
+    pub passes : {pages' : ℕ} → ((get_or es i vacant).kind ≡ 1 → ⊥) → pages' ≡ pages → Counting p limits es pages' (i + 1)
+    unfolding togo
+    passes f e = step 0 (rw (those_leaves (wants 1 true) es i lt (ne_eqb (get_or es i vacant).kind 1 f)) (omega arith)) (omega arith) (omega arith)
 
-    module _ (f : get_or ks i 0 ≡ 1) where
-      takes : (r : Option MemoryEntry) → r ≡ meet (entry (get_or ss i 0) (get_or es i 0) 1) limits → togo p limits ss es ks n i ≡ pages_of p r + togo p limits ss es ks n (i + 1)
-      unfolding togo free_in at
-      takes r is = rw (next, those_takes (wants 1 true) (at (slots_as ss es ks) i) (entries_from (slots_as ss es ks) (n - (i + 1)) (i + 1)) (eq-eqb (get_or ks i 0) 1 f), f, ← is)
+    module _ (f : (get_or es i vacant).kind ≡ 1) where
+      takes : (r : Option MemoryEntry) → r ≡ meet (get_or es i vacant) limits → togo p limits es i ≡ pages_of p r + togo p limits es (i + 1)
+      unfolding togo free_in
+      takes r is = rw (those_takes (wants 1 true) es i lt (eq-eqb (get_or es i vacant).kind 1 f), ← is)
 
       -- a Free entry outside the limits
-      pub misses : {pages' : ℕ} → None ≡ meet (entry (get_or ss i 0) (get_or es i 0) 1) limits → pages' ≡ pages → Counting p limits ss es ks n pages' (i + 1)
+      pub misses : {pages' : ℕ} → None ≡ meet (get_or es i vacant) limits → pages' ≡ pages → Counting p limits es pages' (i + 1)
       misses is e = step 0 (takes None is) (omega arith) (omega arith)
 
       -- a Free entry, cut to the limits
-      pub adds : {pages' : ℕ} (part : MemoryEntry) → Some part ≡ meet (entry (get_or ss i 0) (get_or es i 0) 1) limits → (part.end - part.start) / p ≤ 2 ^ 52
-          → pages' ≡ pages + (part.end - part.start) / p → Counting p limits ss es ks n pages' (i + 1)
+      pub adds : {pages' : ℕ} (part : MemoryEntry) → Some part ≡ meet (get_or es i vacant) limits → (part.end - part.start) / p ≤ 2 ^ 52
+          → pages' ≡ pages + (part.end - part.start) / p → Counting p limits es pages' (i + 1)
       adds part is h e = step ((part.end - part.start) / p) (takes (Some part) is) h e
 
 -- the map's own
-pub counted_all : {p : ℕ} (m : MemoryMap) (low high : Option ℕ) {limits : MemoryEntry} → limits ≡ limit_of p low high → {pages i : ℕ}
-    → Counting p limits m.starts m.ends m.kinds m.size pages i → m.size ≤ i → pages ≡ free_pages p low high m
+pub counted_all : {p : ℕ} {m : MemoryMap} → Made p m → (low high : Option ℕ) {limits : MemoryEntry} → limits ≡ limit_of p low high → {pages i : ℕ}
+    → Counting p limits (take m.size m.entries) pages i → length (take m.size m.entries) ≤ i → pages ≡ free_pages p low high m
 unfolding free_pages
-counted_all m low high is inv h = rw (← is) (ends inv h)
+counted_all made low high is inv h = rw (held_take made, ← is) (ends inv h)

@@ -1,5 +1,6 @@
 -- The share, for a caller: none, zero, and the nearest value otherwise; and that it is never a NaN, whatever the counts. From NearestLaws.
 -- Assumes nothing.
+use Rattle.std.specs.Prelude.{Some, None}
 use mathlib.Core.Path.{◌≡◌, refl, sym, ap, ap₂, ◌∙◌, subst}
 use mathlib.Core.Logic.{inl, inr}
 use mathlib.Core.Bool.{false, not}
@@ -10,7 +11,6 @@ use lib.IntN.{pos}
 use lib.Dec.{T, le→leb}
 use lib.Ieee.{Float, nan, inf, fin, binary64, in_float, is_nan}
 use lib.Ieee.Exact.{HasValue}
-use Rattle.sheet.specs.declared.Share.TheVariants.{NoFree, Of}
 use Rattle.sheet.specs.Share.{quotient, counted, share_of}
 use Rattle.sheet.specs.Nearest.{plus_zero, Nearest}
 use Rattle.sheet.proofs.NearestLaws.{quotient_near, quotient_zero}
@@ -36,22 +36,22 @@ exact n m e = le→leb m (2 ^ 53) (omega (arith, counted_few n))
 
 -- ── The share by cases ──
 
-pub share_some : (free usable : ℕ) → 0 < free → share_of free usable ≡ Of (quotient binary64 (counted usable) (counted free))
+pub share_some : (free usable : ℕ) → 0 < free → share_of free usable ≡ Some (quotient binary64 (counted usable) (counted free))
 share_some zero usable h = absurd (omega arith)
 share_some (suc free) usable h = refl
 
 -- of counts, both below 2 ^ 52
-share_whole : (free usable : ℕ) → 0 < free → free < 2 ^ 52 → usable < 2 ^ 52 → share_of free usable ≡ Of (quotient binary64 usable free)
-share_whole free usable h f u = share_some free usable h ∙ ap₂ (λ (a c : ℕ). Of (quotient binary64 a c)) (counted_same usable u) (counted_same free f)
+share_whole : (free usable : ℕ) → 0 < free → free < 2 ^ 52 → usable < 2 ^ 52 → share_of free usable ≡ Some (quotient binary64 usable free)
+share_whole free usable h f u = share_some free usable h ∙ ap₂ (λ (a c : ℕ). Some (quotient binary64 a c)) (counted_same usable u) (counted_same free f)
 
-pub share_none : (usable : ℕ) → share_of 0 usable ≡ NoFree
+pub share_none : (usable : ℕ) → share_of 0 usable ≡ None
 share_none usable = refl
 
-pub share_zero : (free : ℕ) → 0 < free → free < 2 ^ 52 → share_of free 0 ≡ Of plus_zero
-share_zero free h f = share_whole free 0 h f (omega arith) ∙ ap Of (quotient_zero binary64 0 free h (omega arith) f refl)
+pub share_zero : (free : ℕ) → 0 < free → free < 2 ^ 52 → share_of free 0 ≡ Some plus_zero
+share_zero free h f = share_whole free 0 h f (omega arith) ∙ ap Some (quotient_zero binary64 0 free h (omega arith) f refl)
 
 pub share_near : (free usable : ℕ) → 0 < free → free < 2 ^ 52 → 0 < usable → usable < 2 ^ 52
-    → (x : Float) × (share_of free usable ≡ Of x) × Nearest binary64 usable free x
+    → (x : Float) × (share_of free usable ≡ Some x) × Nearest binary64 usable free x
 share_near free usable h f k u = (
   quotient binary64 usable free,
   share_whole free usable h f u,
@@ -77,7 +77,7 @@ quotient_number a c C h l = elim (eq-zero-or-pos a) [
 ]
 
 -- no share of two numbers is a NaN
-pub share_number : (free usable : ℕ) (x : Float) → Of x ≡ share_of free usable → T (not (is_nan x))
+pub share_number : (free usable : ℕ) (x : Float) → Some x ≡ share_of free usable → T (not (is_nan x))
 share_number zero usable x e = absurd (let z : ◌≡◌ {A = ℕ} 0 1 = cc in omega arith)
 share_number (suc free) usable x e =
     let is : x ≡ quotient binary64 (counted usable) (counted (suc free)) = cc in

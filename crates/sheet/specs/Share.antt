@@ -3,8 +3,6 @@
 use Rattle.std.specs.Prelude.{ℕ, zero, suc, ◌-◌, ◌^◌, min, pos, Float, Option, Some, None}
 use Rattle.std.specs.Float.{Format, binary64}
 use Rattle.std.specs.Float.Ieee.{div, of_int, to_bits}
-use Rattle.sheet.specs.declared.Share.{Share}
-use Rattle.sheet.specs.declared.Share.TheVariants.{NoFree, Of}
 
 -- usable / free: each count as a float, and one division
 unfoldable pub quotient : Format → ℕ → ℕ → Float
@@ -16,11 +14,11 @@ unfoldable pub counted : ℕ → ℕ
 counted n = min n (2 ^ 52 - 1)
 
 -- "none when no page is Free"
-abbrev pub share_of : ℕ → ℕ → Share
-share_of zero usable = NoFree
-share_of (suc free) usable = Of (quotient binary64 (counted usable) (counted (suc free)))
+abbrev pub share_of : ℕ → ℕ → Option Float
+share_of zero usable = None
+share_of (suc free) usable = Some (quotient binary64 (counted usable) (counted (suc free)))
 
 -- the share's 64 bits, as the report prints them
-abbrev pub bits_of : Share → Option ℕ
-bits_of NoFree = None
-bits_of (Of x) = Some (to_bits binary64 x)
+abbrev pub bits_of : Option Float → Option ℕ
+bits_of None = None
+bits_of (Some x) = Some (to_bits binary64 x)

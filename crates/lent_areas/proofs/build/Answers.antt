@@ -1,14 +1,26 @@
-use Rattle.std.proofs.Common.{◌≡◌, ap, ◌∙◌, arith}
-use Rattle.lent_areas.proofs.RowLaws.{laid, laid_finished}
+use Rattle.std.proofs.Common.{◌≡◌, ℕ, sym, ap, ◌∙◌, arith}
+use lib.ListN.{length, replicate, length-replicate}
+use Rattle.lent_areas.proofs.RowLaws.{laid, few_areas, never_refused, most, refuses, finishes}
 use Rattle.lent_areas.proofs.build.Goals as goal
+
+-- the table
+full : length (replicate {A = ℕ} 1024 0) ≡ 1024
+full = length-replicate {A = ℕ} 1024 0
+
+pub returns-in_err-n : goal.returns-in_err-n
+returns-in_err-n c = absurd (never_refused _ (few_areas c.requires _ _) _ full (sym c.in_err-n.was ∙ c.build.ensures.answer))
+
+pub returns-then-row-n : goal.returns-then-row-n
+returns-then-row-n c =
+    let r = refuses _ (few_areas c.requires _ _) _ full (sym c.in_ok-n.was ∙ c.build.ensures.answer) c.args.row.now c.if-row-n.true in
+    record { answer = r.0; areas = r.1 }
+
+pub area_of-requires : goal.area_of-requires
+area_of-requires c =
+    omega (arith, most _ (few_areas c.requires _ _) _ full (sym c.in_ok-n.was ∙ c.build.ensures.answer))
 
 pub returns : goal.returns
 returns c =
-    let last : c.loop-i.i ≡ c.table_for-t.result.count = omega arith in
-    record {
-      answer = c.table_for-t.ensures.answer;
-      areas =
-          c.loop-i.invariant.1
-          ∙ ap (laid c.args.row.now c.table_for-t.result.slots) last
-          ∙ laid_finished _ _ _ c.table_for-t.ensures;
-    }
+    let last : c.loop-i.i ≡ c.in_ok-n.n = omega arith in
+    let r = finishes _ (few_areas c.requires _ _) _ full (sym c.in_ok-n.was ∙ c.build.ensures.answer) c.args.row.now c.if-row-n.false c.build.ensures.table in
+    record { answer = r.0; areas = c.loop-i.invariant ∙ ap (laid c.args.row.now c.build.new.slots) last ∙ r.1 }

@@ -5,11 +5,8 @@ use Rattle.sheet.proofs.usable_pages.Goals as goal
 pub loop-i-init : goal.loop-i-init
 loop-i-init c = begins _ _ _
 
-pub returns-then-slots-i : goal.returns-then-slots-i
-returns-then-slots-i c = ends c.loop-i.invariant (omega arith)
-
 pub loop-i-preserved : goal.loop-i-preserved
-loop-i-preserved c = adds c.loop-i.invariant (omega arith) c.saturating_add-pages.ensures
+loop-i-preserved c = adds c.loop-i.invariant (omega (arith, c.min-i-end.ensures)) c.saturating_add-pages.ensures
 
 pub returns : goal.returns
-returns c = ends c.loop-i.invariant (omega arith)
+returns c = ends c.loop-i.invariant (omega (arith, c.min-i-end.ensures))
