@@ -102,9 +102,6 @@ module _ {out₀ : List ℕ} {at : ℕ} {slots : List ℕ} {n : ℕ} where
           is = same_text (writes_append inv.is w (omega arith)) (lines_more slots i);
         }
 
-    pub ends : n ≤ i → Writes out₀ at (area_lines slots n 0) out p
-    ends h = let e : i ≡ n = omega arith in same_text inv.is (ap (λ (k : ℕ). area_lines slots k 0) e)
-
 pub count_length : (n : ℕ) → length (count_line n) ≤ 27
 unfolding count_line
 count_length n = omega (arith, length-append (decimal_text n) newline, decimal_length n)

@@ -1,41 +1,12 @@
--- Laws of a text put into a lent buffer: the loop that puts it; two texts one behind the other are their join; the buffer keeps its length.
--- Assumes nothing.
-use mathlib.Core.Path.{◌≡◌, refl, sym, ap, ◌∙◌, subst}
+-- Laws of a text put into a lent buffer: two texts one behind the other are their join, and the buffer keeps its length. Assumes nothing.
+use mathlib.Core.Path.{◌≡◌, sym, ap, ◌∙◌, subst}
 use mathlib.Core.List.{List, ◌++◌, append_assoc}
-use Prim.Native.Nat.{ℕ, ◌+◌, ◌≤◌, ◌<◌}
+use Prim.Native.Nat.{ℕ, ◌+◌, ◌≤◌}
 use native.Mathlib.Omega.{arith}
 use native.Mathlib.Nat.{add_assoc}
-use native.Mathlib.Numerals.{add-one}
-use lib.ListN.{length, get_or, set, take, drop, length-set, length-append, length-take}
-use lib.Seq.{paste, paste-suc, paste-zero, take-paste, drop-paste, length-paste, take-length, drop-drop}
+use lib.ListN.{length, take, drop, length-append, length-take}
+use lib.Seq.{take-paste, drop-paste, length-paste, take-length, drop-drop}
 use Rattle.report_text.specs.Writing.{Writes}
-
--- ── The loop ──
--- the first i bytes are put
-pub record Putting (out₀ : List ℕ) (at : ℕ) (bytes out : List ℕ) (i : ℕ) : Type 0 where
-  pub upto : i ≤ length bytes
-  pub size : length out ≡ length out₀
-  pub is : out ≡ paste out₀ at bytes i
-
-module _ {out₀ : List ℕ} {at : ℕ} {bytes : List ℕ} where
-  pub begins : Putting out₀ at bytes out₀ 0
-  begins = record { upto = omega arith; size = refl; is = paste-zero out₀ at bytes }
-
-  module _ {out : List ℕ} {i : ℕ} (inv : Putting out₀ at bytes out i) where
-    pub more : at + length bytes ≤ length out₀ → i < length bytes → Putting out₀ at bytes (set out (at + i) (get_or bytes i 0)) (i + 1)
-    more fits lt =
-        record {
-          upto = omega arith;
-          size = length-set out (at + i) (get_or bytes i 0) ∙ inv.size;
-          is =
-              ap (λ (l : List ℕ). set l (at + i) (get_or bytes i 0)) inv.is
-              ∙ paste-suc out₀ at bytes i 0 (omega arith) lt ∙ ap (λ (k : ℕ). paste out₀ at bytes k) (sym (add-one i));
-        }
-
-    pub ends : length bytes ≤ i → Writes out₀ at bytes out (at + i)
-    ends h =
-        let e : i ≡ length bytes = omega arith in
-        record { put = inv.is ∙ ap (λ (k : ℕ). paste out₀ at bytes k) e; end = ap (λ (k : ℕ). at + k) e }
 
 -- ── One text behind the other ──
 pub same_text : {a : List ℕ} {at : ℕ} {x y b : List ℕ} {q : ℕ} → Writes a at x b q → x ≡ y → Writes a at y b q

@@ -17,12 +17,9 @@ fn put(out: &mut [u8], at: usize, bytes: &[u8]) -> usize
     requires { at + length bytes.now ≤ length out.old }
     ensures { Writes out.old at bytes.now out.new result }
 {
-    let mut i: usize = 0;
-    while i < bytes.len() {
-        out[at + i] = bytes[i];
-        i += 1;
-    }
-    at + i
+    let end = at + bytes.len();
+    out[at..end].copy_from_slice(bytes);
+    end
 }
 
 // A number's decimal digits.
@@ -73,10 +70,8 @@ fn put_areas(out: &mut [u8], at: usize, slots: &[u64], n: usize) -> usize
     ensures { Writes out.old at (area_lines slots.now n 0) out.new result }
 {
     let mut p = at;
-    let mut i: usize = 0; // the first area
-    while i < n {
+    for i in 0..n {
         p = put_area(out, p, slots[i + i], slots[i + i + 1]);
-        i += 1;
     }
     p
 }

@@ -43,34 +43,21 @@ pub fn word(space: &[u8], at: usize) -> u64
 pub fn forward(space: &[u8], at: usize, bytes: u64) -> usize
     ensures { Ahead space.now at bytes result }
 {
-    if (space.len() as u64) < bytes {
-        return space.len();
-    }
-    let n = bytes as usize;
-    if space.len() - n < at {
-        return space.len();
-    }
-    at + n
+    at.saturating_add(bytes as usize).min(space.len())
 }
 
 // The same for numbers.
 pub fn past(space: &[u8], at: usize, words: u64) -> usize
     ensures { Ahead space.now at (words * 8) result }
 {
-    if space.len() as u64 / 8 < words {
-        return space.len();
-    }
-    forward(space, at, words * 8)
+    forward(space, at, words.saturating_mul(8))
 }
 
 // The same for registrations, claims and entries of a map, of three numbers each.
 pub fn past_threes(space: &[u8], at: usize, count: u64) -> usize
     ensures { Ahead space.now at (count * 24) result }
 {
-    if space.len() as u64 / 24 < count {
-        return space.len();
-    }
-    forward(space, at, count * 24)
+    forward(space, at, count.saturating_mul(24))
 }
 
 // The number that stands so many numbers further on, or 0 where the space does not have it.
@@ -84,13 +71,7 @@ pub fn nth(space: &[u8], at: usize, n: u64) -> u64
 pub fn is_three(space: &[u8], at: usize, a: u64, b: u64, c: u64) -> bool
     ensures { Tells result (Three space.now at a b c) }
 {
-    if word(space, at) != a {
-        return false;
-    }
-    if nth(space, at, 1) != b {
-        return false;
-    }
-    nth(space, at, 2) == c
+    word(space, at) == a && nth(space, at, 1) == b && nth(space, at, 2) == c
 }
 
 // Moves the bytes from `at` up to `have` to the front, and answers how many they are.

@@ -1,4 +1,4 @@
-use Rattle.report_text.proofs.TextLaws.{begins, room, more, ends}
+use Rattle.report_text.proofs.TextLaws.{begins, room, more}
 use Rattle.report_text.proofs.put_areas.Goals as goal
 
 pub loop-i-init : goal.loop-i-init
@@ -9,9 +9,3 @@ put_area-p-requires c = room c.loop-i.invariant c.requires.1 c.loop-i-test.true
 
 pub loop-i-preserved : goal.loop-i-preserved
 loop-i-preserved c = more c.loop-i.invariant c.put_area-p.ensures c.requires.1 c.loop-i-test.true
-
-pub shape_of-out : goal.shape_of-out
-shape_of-out c = c.loop-i.invariant.size
-
-pub returns : goal.returns
-returns c = ends c.loop-i.invariant c.loop-i-test.false
