@@ -1,7 +1,6 @@
 -- The claims of a tree, in the Rust's order: document 01, "Reservation block", "/reserved-memory" and "Devices". On the tree alone; the
 -- reservation block's entries come beside it, since they stand in a block of their own.
-use Rattle.std.specs.Prelude.{ℕ, ◌+◌, ◌^◌, List, [], ◌∷◌, ◌++◌, Bool, true, false, cond, ◌&&◌, ◌||◌, eqb, leb}
-use Rattle.std.proofs.Math.Option.{Option, some, none as nothing}
+use Rattle.std.specs.Prelude.{ℕ, ◌+◌, ◌^◌, List, [], ◌∷◌, ◌++◌, Bool, true, false, cond, ◌&&◌, ◌||◌, eqb, leb, Option, Some, None}
 use Rattle.entry.specs.declared.BootloaderMemoryKind.TheVariants.{Reserved, Device}
 use Rattle.entry.specs.Kind.{number_of}
 use Rattle.entry.specs.declared.Claim.{Claim}
@@ -20,26 +19,22 @@ use Rattle.subtree.specs.Names.{reg_name, ranges_name, size_name, alloc_ranges_n
 use Rattle.subtree.specs.Subtree.{props_of, under_root}
 use Rattle.text.specs.Strings.{string_in, contains}
 use Rattle.translation.specs.Translation.{address_of, size_of, climbed}
-use Rattle.reserved.specs.declared.Exact.{Exact}
-use Rattle.reserved.specs.declared.Exact.TheVariants.{One, NotExact}
 use Rattle.reserved.specs.Reserved.{available, children_count, exact_of}
-use Rattle.stdout.specs.declared.Uart.{Uart}
-use Rattle.stdout.specs.declared.Uart.TheVariants.{Range as UartRange, NoUart}
 use Rattle.stdout.specs.Stdout.{is_there, uart_of}
 use Rattle.claims.specs.declared.Way.{Way}
 use Rattle.claims.specs.declared.Way.TheVariants.{Reserve, Soc, Controllers}
 
 -- a claim that may be none, and then the others
 abbrev pub and_then : Option Claim → List Claim → List Claim
-and_then nothing l = l
-and_then (some c) l = c ∷ l
+and_then None l = l
+and_then (Some c) l = c ∷ l
 
 -- ── Reservation block ──
 
 -- "Size 0 alone, or a sum of 2^64 or more, skips that entry."
 unfoldable pub block_claim : Region → Option Claim
 block_claim r =
-    cond (eqb r.size 0 || leb (2 ^ 64) (r.address + r.size)) nothing (some (claim r.address r.size (number_of Reserved)))
+    cond (eqb r.size 0 || leb (2 ^ 64) (r.address + r.size)) None (Some (claim r.address r.size (number_of Reserved)))
 
 unfoldable pub block_claims : List Region → List Claim
 block_claims [] = []
@@ -53,23 +48,23 @@ entries unreadable = []
 entries (rows l) = l
 
 abbrev pub entries_in : CellCount → CellCount → Option (List ℕ) → List Region
-entries_in a c nothing = []
-entries_in a c (some v) = entries (reg_of a c v)
+entries_in a c None = []
+entries_in a c (Some v) = entries (reg_of a c v)
 
-abbrev pub the_one : Exact → List Region
-the_one (One r) = r ∷ []
-the_one NotExact = []
+abbrev pub the_one : Option Region → List Region
+the_one (Some r) = r ∷ []
+the_one None = []
 
 -- "Else with `size`: one claim, exactly if .. Otherwise nothing."
 abbrev pub dynamic : CellCount → CellCount → Option (List ℕ) → Option (List ℕ) → List Region
-dynamic a c nothing w = []
-dynamic a c (some v) nothing = []
-dynamic a c (some v) (some w) = the_one (exact_of a c v w)
+dynamic a c None w = []
+dynamic a c (Some v) None = []
+dynamic a c (Some v) (Some w) = the_one (exact_of a c v w)
 
 -- "With `reg` (even empty): its entries. Else .."
 abbrev pub fixed_or : CellCount → CellCount → Option (List ℕ) → List Region → List Region
-fixed_or a c (some v) l = entries (reg_of a c v)
-fixed_or a c nothing l = l
+fixed_or a c (Some v) l = entries (reg_of a c v)
+fixed_or a c None l = l
 
 -- the regions of a child with these properties, whose parent has these cells
 unfoldable pub child_regions : Way → CellCount → CellCount → List Property → List Region
@@ -91,9 +86,9 @@ kind_by Soc = number_of Device
 kind_by Controllers = number_of Device
 
 abbrev pub landed : Way → Window → ℕ → Option Claim
-landed way (To x) size = some (claim x size (kind_by way))
-landed way Nowhere size = nothing
-landed way Unreadable size = nothing
+landed way (To x) size = Some (claim x size (kind_by way))
+landed way Nowhere size = None
+landed way Unreadable size = None
 
 unfoldable pub claim_by : Way → Table Range → Region → Option Claim
 claim_by way t r = landed way (lands_by way t r.address r.size) r.size
@@ -118,17 +113,17 @@ reserved_claims t = go (under_root reserved_memory_name t)
         cond (children_count (props_of t) (props_of s)) (kid_claims Reserve (rows []) (address_of (props_of s)) (size_of (props_of s)) (kids_of s)) []
 
 abbrev pub soc_by : Nodes → Nodes → Option (List ℕ) → List Claim
-soc_by t s nothing = []
-soc_by t s (some v) =
+soc_by t s None = []
+soc_by t s (Some v) =
     kid_claims Soc (ranges_of (address_of (props_of s)) (address_of (props_of t)) (size_of (props_of s)) v) (address_of (props_of s)) (size_of (props_of s)) (kids_of s)
 
 -- "each readable `reg` entry of /soc's children through the soc window"; "no `ranges`, no claim"
 unfoldable pub soc_claims : Nodes → List Claim
 soc_claims t = soc_by t (under_root soc_name t) (value_of ranges_name (props_of (under_root soc_name t)))
 
-abbrev pub uart_claim : Uart → Option Claim
-uart_claim (UartRange r) = some (claim r.address r.size (number_of Device))
-uart_claim NoUart = nothing
+abbrev pub uart_claim : Option Region → Option Claim
+uart_claim (Some r) = Some (claim r.address r.size (number_of Device))
+uart_claim None = None
 
 -- "then the first `reg` entry of the stdout node, if it has `compatible`, translated"
 unfoldable pub stdout_claims : Nodes → List Claim
@@ -139,8 +134,8 @@ unfoldable pub controller_claims : Nodes → List Claim
 controller_claims t = kid_claims Controllers (rows []) (address_of (props_of t)) (size_of (props_of t)) (kids_of t)
 
 abbrev pub holds_virt : Option (List ℕ) → Bool
-holds_virt nothing = false
-holds_virt (some s) = contains s dummy_virt
+holds_virt None = false
+holds_virt (Some s) = contains s dummy_virt
 
 -- "If the build is for 64-bit ARM and the root's `model` contains `linux,dummy-virt`"
 unfoldable pub is_virt : Bool → Nodes → Bool

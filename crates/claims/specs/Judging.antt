@@ -1,6 +1,5 @@
 -- What a tree is refused for beyond its form: document 01, "Numbers a caller gets back", 7 and 8.
-use Rattle.std.specs.Prelude.{ℕ, List, [], ◌∷◌, Bool, true, false, cond, ◌&&◌, ◌||◌}
-use Rattle.std.proofs.Math.Option.{Option, some, none as nothing}
+use Rattle.std.specs.Prelude.{ℕ, List, [], ◌∷◌, Bool, true, false, cond, ◌&&◌, ◌||◌, Result, Ok, Err, Option, Some, None}
 use Rattle.cells.specs.declared.CellCount.{CellCount}
 use Rattle.cells.specs.declared.Region.{Region}
 use Rattle.cells.specs.Rows.{Table, unreadable, rows, reg_of, ranges_of}
@@ -11,9 +10,9 @@ use Rattle.subtree.specs.Names.{reg_name, ranges_name, soc_name, reserved_memory
 use Rattle.subtree.specs.Subtree.{props_of, under_root}
 use Rattle.translation.specs.Translation.{address_of, size_of}
 use Rattle.reserved.specs.Reserved.{available, children_count}
-use Rattle.claims.specs.declared.Judged.{Judged}
-use Rattle.claims.specs.declared.Judged.TheVariants.{Sound, UnreadableReg, UnreadableRanges}
 use Rattle.claims.specs.Claims.{is_virt}
+use Rattle.claims.specs.declared.ValueFault.{ValueFault}
+use Rattle.claims.specs.declared.ValueFault.TheVariants.{UnreadableReg, UnreadableRanges}
 
 abbrev pub is_unreadable : {A : Type 0} → Table A → Bool
 is_unreadable unreadable = true
@@ -25,8 +24,8 @@ has_entry (rows []) = false
 has_entry (rows (r ∷ l)) = true
 
 abbrev pub in_value : {A : Type 0} → (List ℕ → A) → A → Option (List ℕ) → A
-in_value f missing nothing = missing
-in_value f missing (some v) = f v
+in_value f missing None = missing
+in_value f missing (Some v) = f v
 
 -- a child with these properties: "a counted reserved child's nonempty `reg` is unreadable", or, of /soc, it has "a readable /soc entry"
 unfoldable pub child_is : Bool → CellCount → CellCount → List Property → Bool
@@ -55,11 +54,14 @@ bad_ranges t = go (under_root soc_name t)
         && some_kid false (address_of (props_of s)) (size_of (props_of s)) (kids_of s)
 
 -- 7 before 8; where the two fixed ranges are all that a tree claims of devices, no soc window is read
-unfoldable pub judged_of : Bool → Nodes → Judged
-judged_of arm t = cond (bad_reg t) UnreadableReg (cond (is_virt arm t) Sound (cond (bad_ranges t) UnreadableRanges Sound))
+unfoldable pub judged_of : Bool → Nodes → Result Unit ValueFault
+judged_of arm t = cond (bad_reg t) (Err UnreadableReg) (cond (is_virt arm t) (Ok tt) (cond (bad_ranges t) (Err UnreadableRanges) (Ok tt)))
 
 -- "Numbers a caller gets back"
-abbrev pub judged_number : Judged → ℕ
-judged_number Sound = 0
-judged_number UnreadableReg = 7
-judged_number UnreadableRanges = 8
+abbrev pub value_fault_number : ValueFault → ℕ
+value_fault_number UnreadableReg = 7
+value_fault_number UnreadableRanges = 8
+
+abbrev pub judged_number : Result Unit ValueFault → ℕ
+judged_number (Ok _) = 0
+judged_number (Err f) = value_fault_number f

@@ -7,13 +7,13 @@ ghost use Rattle.nodes.specs.Nav.{prop_at};
 ghost use Rattle.subtree.specs.Names.{size_name, alloc_ranges_name};
 ghost use Rattle.subtree.specs.Subtree.{node_at, at, root_at, props_of, Stands};
 ghost use Rattle.claims.specs.Claims.{lands_by, kind_by, is_virt};
-ghost use Rattle.claims.specs.Judging.{child_is, some_kid, bad_reg, bad_ranges, judged_of, judged_number};
+ghost use Rattle.claims.specs.Judging.{child_is, some_kid, bad_reg, bad_ranges, judged_of, value_fault_number};
 ghost use Rattle.claims.specs.Values.{child_value, dynamic_at};
 ghost use Rattle.claims.specs.declared.Way.TheVariants.{Reserve, Controllers};
 
 use cells::{CellCount, RangeRow, RegRow};
-use nodes::{Found, Value};
-use reserved::Exact;
+use fdt::Block;
+use numbers::Numbered;
 use windows::Window;
 
 // By which rule children claim memory: as those of /reserved-memory, as those of /soc, or as the root's.
@@ -39,20 +39,18 @@ impl Way {
 
 // What a tree is refused for, beyond its form.
 #[derive(Clone, Copy)]
-pub enum Judged {
-    Sound,
+pub enum ValueFault {
     UnreadableReg,
     UnreadableRanges,
 }
 
-impl Judged {
-    pub fn number(self) -> u8
-        ensures { result ≡ judged_number self }
-    {
+impl Numbered for ValueFault {
+    ghost number_of = { value_fault_number };
+
+    fn number(self) -> u8 {
         match self {
-            Judged::Sound => 0,
-            Judged::UnreadableReg => 7,
-            Judged::UnreadableRanges => 8,
+            ValueFault::UnreadableReg => 7,
+            ValueFault::UnreadableRanges => 8,
         }
     }
 }
@@ -96,24 +94,18 @@ fn dynamic_value<'a>(
     child: usize,
     address: CellCount,
     size: CellCount,
-) -> Value
+) -> Option<Block>
     ensures { result ≡ dynamic_at structure.now address size (prop_at structure.now strings.now child size_name) (prop_at structure.now strings.now child alloc_ranges_name) }
 {
-    let Value::Here(at, len) = nodes::getprop(structure, strings, child, b"size") else {
-        return Value::Missing;
-    };
-    let Value::Here(to, long) = nodes::getprop(structure, strings, child, b"alloc-ranges") else {
-        return Value::Missing;
-    };
-    match reserved::visit_exact_dynamic_reserved_memory_range(
-        words::part(structure, at, len),
-        words::part(structure, to, long),
+    let bytes = nodes::getprop(structure, strings, child, b"size")?;
+    let ranges = nodes::getprop(structure, strings, child, b"alloc-ranges")?;
+    reserved::visit_exact_dynamic_reserved_memory_range(
+        words::part(structure, bytes.at, bytes.len),
+        words::part(structure, ranges.at, ranges.len),
         address,
         size,
-    ) {
-        Exact::One(_) => Value::Here(to, long),
-        Exact::NotExact => Value::Missing,
-    }
+    )?;
+    Some(ranges)
 }
 
 // The value of a reserved child's entries: its `reg`, or that of an exact dynamic reservation.
@@ -123,15 +115,15 @@ fn reserved_value<'a>(
     child: usize,
     address: CellCount,
     size: CellCount,
-) -> Value
+) -> Option<Block>
     ensures { result ≡ child_value structure.now strings.now Reserve address size child }
 {
     if !reserved::reserved_memory_node_is_available(structure, strings, child) {
-        return Value::Missing;
+        return None;
     }
     match nodes::getprop(structure, strings, child, b"reg") {
-        Value::Here(at, len) => Value::Here(at, len),
-        Value::Missing => dynamic_value(structure, strings, child, address, size),
+        Some(reg) => Some(reg),
+        None => dynamic_value(structure, strings, child, address, size),
     }
 }
 
@@ -143,17 +135,15 @@ pub fn child_value<'a>(
     address: CellCount,
     size: CellCount,
     child: usize,
-) -> Value
+) -> Option<Block>
     ensures { result ≡ child_value structure.now strings.now way address size child }
 {
     match way {
         Way::Reserve => reserved_value(structure, strings, child, address, size),
         Way::Soc => nodes::getprop(structure, strings, child, b"reg"),
         Way::Controllers => {
-            match nodes::getprop(structure, strings, child, b"interrupt-controller") {
-                Value::Here(_, _) => nodes::getprop(structure, strings, child, b"reg"),
-                Value::Missing => Value::Missing,
-            }
+            nodes::getprop(structure, strings, child, b"interrupt-controller")?;
+            nodes::getprop(structure, strings, child, b"reg")
         }
     }
 }
@@ -166,13 +156,13 @@ pub fn is_qemu_virt<'a>(structure: &'a [u8], strings: &'a [u8], arm: bool) -> bo
     if !arm {
         return false;
     }
-    let Found::At(root) = nodes::path_offset(structure, strings, b"/") else {
+    let Some(root) = nodes::path_offset(structure, strings, b"/") else {
         return false;
     };
-    let Value::Here(at, len) = text::string_of(structure, strings, root, b"model") else {
+    let Some(model) = text::string_of(structure, strings, root, b"model") else {
         return false;
     };
-    text::holds(words::part(structure, at, len), b"linux,dummy-virt")
+    text::holds(words::part(structure, model.at, model.len), b"linux,dummy-virt")
 }
 
 // Whether a child is what some_child looks for.
@@ -186,10 +176,10 @@ fn child_is<'a>(
 ) -> bool
     ensures { result ≡ child_is reserved address size (props_of (node_at structure.now strings.now child)) }
 {
-    let Value::Here(at, len) = nodes::getprop(structure, strings, child, b"reg") else {
+    let Some(reg) = nodes::getprop(structure, strings, child, b"reg") else {
         return false;
     };
-    let first = cells::reg_row(words::part(structure, at, len), address, size, 0);
+    let first = cells::reg_row(words::part(structure, reg.at, reg.len), address, size, 0);
     if reserved {
         if !reserved::reserved_memory_node_is_available(structure, strings, child) {
             return false;
@@ -211,7 +201,7 @@ fn child_is<'a>(
 fn some_child<'a>(
     structure: &'a [u8],
     strings: &'a [u8],
-    first: Found,
+    first: Option<usize>,
     address: CellCount,
     size: CellCount,
     reserved: bool,
@@ -220,22 +210,20 @@ fn some_child<'a>(
     ensures { result ≡ some_kid reserved address size (at structure.now strings.now first) }
 {
     let mut child = first;
-    loop {
-        let Found::At(node) = child else {
-            return false;
-        };
+    while let Some(node) = child {
         if child_is(structure, strings, node, address, size, reserved) {
             return true;
         }
         child = nodes::next_subnode(structure, strings, node);
     }
+    false
 }
 
 // Whether a counted child of /reserved-memory has a `reg` that cannot be read.
 fn bad_reg<'a>(structure: &'a [u8], strings: &'a [u8], root: usize) -> bool
     ensures { result ≡ bad_reg (node_at structure.now strings.now root) }
 {
-    let Found::At(node) = nodes::subnode(structure, strings, root, b"reserved-memory") else {
+    let Some(node) = nodes::subnode(structure, strings, root, b"reserved-memory") else {
         return false;
     };
     if !reserved::children_count(structure, strings, root, node) {
@@ -251,16 +239,16 @@ fn bad_reg<'a>(structure: &'a [u8], strings: &'a [u8], root: usize) -> bool
 fn bad_ranges<'a>(structure: &'a [u8], strings: &'a [u8], root: usize) -> bool
     ensures { result ≡ bad_ranges (node_at structure.now strings.now root) }
 {
-    let Found::At(soc) = nodes::subnode(structure, strings, root, b"soc") else {
+    let Some(soc) = nodes::subnode(structure, strings, root, b"soc") else {
         return false;
     };
-    let Value::Here(at, len) = nodes::getprop(structure, strings, soc, b"ranges") else {
+    let Some(ranges) = nodes::getprop(structure, strings, soc, b"ranges") else {
         return false;
     };
     let own = nodes::address_cells(structure, strings, soc);
     let parent = nodes::address_cells(structure, strings, root);
     let length = nodes::size_cells(structure, strings, soc);
-    match cells::range_row(words::part(structure, at, len), own, parent, length, 0) {
+    match cells::range_row(words::part(structure, ranges.at, ranges.len), own, parent, length, 0) {
         RangeRow::NoRange => {
             let first = nodes::first_subnode(structure, strings, soc);
             some_child(structure, strings, first, own, length, false)
@@ -271,20 +259,20 @@ fn bad_ranges<'a>(structure: &'a [u8], strings: &'a [u8], root: usize) -> bool
 }
 
 // What the tree is refused for: 7 is judged before 8, and both before its first claim is registered.
-pub fn judge<'a>(structure: &'a [u8], strings: &'a [u8], arm: bool) -> Judged
+pub fn judge<'a>(structure: &'a [u8], strings: &'a [u8], arm: bool) -> Result<(), ValueFault>
     ensures { result ≡ judged_of arm (root_at structure.now strings.now) }
 {
-    let Found::At(root) = nodes::path_offset(structure, strings, b"/") else {
-        return Judged::Sound;
+    let Some(root) = nodes::path_offset(structure, strings, b"/") else {
+        return Ok(());
     };
     if bad_reg(structure, strings, root) {
-        return Judged::UnreadableReg;
+        return Err(ValueFault::UnreadableReg);
     }
     if is_qemu_virt(structure, strings, arm) {
-        return Judged::Sound;
+        return Ok(());
     }
     if bad_ranges(structure, strings, root) {
-        return Judged::UnreadableRanges;
+        return Err(ValueFault::UnreadableRanges);
     }
-    Judged::Sound
+    Ok(())
 }

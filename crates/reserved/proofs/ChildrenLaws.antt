@@ -10,10 +10,6 @@ use Rattle.words.specs.Bytes.{part_of}
 use Rattle.words.proofs.BytesLaws.{cond_elim}
 use Rattle.fdt.specs.Tree.{Property, Tok, begin, ended, prop, fin, bad, lex_at}
 use Rattle.cells.specs.declared.CellCount.{CellCount}
-use Rattle.nodes.specs.declared.Found.{Found}
-use Rattle.nodes.specs.declared.Found.TheVariants.{At, Nothing}
-use Rattle.nodes.specs.declared.Value.{Value}
-use Rattle.nodes.specs.declared.Value.TheVariants.{Here, Missing}
 use Rattle.nodes.specs.Nav.{same_bytes, inside, content_at, lookup, prop_at}
 use Rattle.nodes.specs.Cells.{address_cells, size_cells, count_at}
 use Rattle.reading.specs.Values.{value_of, count_of}
@@ -22,11 +18,13 @@ use Rattle.subtree.specs.Names.{status_name, okay, ranges_name}
 use Rattle.subtree.specs.Subtree.{node_at, props_of}
 use Rattle.subtree.proofs.SubtreeLaws.{value_at, count_at_lem}
 use Rattle.reserved.specs.Reserved.{available, stated_alike, is_empty, children_count}
+use Rattle.std.specs.Prelude.{Option, Some, None}
+use Rattle.fdt.specs.declared.Block.{Block}
 
 -- ── A value that is found is as long as is said ──
-abbrev Long : List ℕ → Value → Type 0
-Long b (Here at len) = length (part_of b at len) ≡ len
-Long b Missing = Unit {0}
+abbrev Long : List ℕ → Option Block → Type 0
+Long b (Some v) = length (part_of b v.at v.len) ≡ v.len
+Long b None = Unit {0}
 
 module _ (b n : List ℕ) (name : List ℕ) where
   lookup_long : (ts : List Tok) (p : ℕ) → lex_at b n p ≡ ts → Long b (lookup name ts)
@@ -44,30 +42,30 @@ module _ (b n : List ℕ) (name : List ℕ) where
   unfolding prop_at
   prop_long q = go (content_at b n q)
     where
-      go : (c : Found) → Long b (inside Missing (λ p. lookup name (lex_at b n p)) c)
-      go (At p) = lookup_long (lex_at b n p) p refl
-      go Nothing = tt
+      go : (c : Option ℕ) → Long b (inside None (λ p. lookup name (lex_at b n p)) c)
+      go (Some p) = lookup_long (lex_at b n p) p refl
+      go None = tt
 
   -- x is what is found
-  module _ (q : ℕ) (x : Value) (is : x ≡ prop_at b n q name) where
+  module _ (q : ℕ) (x : Option Block) (is : x ≡ prop_at b n q name) where
     -- whether it is there, with no bytes
-    pub empty_here : (at len : ℕ) → x ≡ Here at len → eqb len 0 ≡ is_empty (value_of name (props_of (node_at b n q)))
-    empty_here at len e =
-        let h : length (part_of b at len) ≡ len = rw (← is, e) at (prop_long q) in
+    pub empty_here : (p : Block) → x ≡ Some p → eqb p.len 0 ≡ is_empty (value_of name (props_of (node_at b n q)))
+    empty_here p e =
+        let h : length (part_of b p.at p.len) ≡ p.len = rw (← is, e) at (prop_long q) in
         rw (← value_at b n q name, ← is, e, h)
 
-    pub empty_missing : x ≡ Missing → false ≡ is_empty (value_of name (props_of (node_at b n q)))
+    pub empty_missing : x ≡ None → false ≡ is_empty (value_of name (props_of (node_at b n q)))
     empty_missing e = rw (← value_at b n q name, ← is, e)
 
 -- ── By `status` ──
-module _ (b n : List ℕ) (q : ℕ) (x : Value) (is : x ≡ prop_at b n q status_name) where
+module _ (b n : List ℕ) (q : ℕ) (x : Option Block) (is : x ≡ prop_at b n q status_name) where
   -- v is the value, and s whether it is `okay`
-  pub status_here : (at len : ℕ) (v : List ℕ) (s : Bool) → x ≡ Here at len → v ≡ part_of b at len → s ≡ same_bytes v okay
+  pub status_here : (p : Block) (v : List ℕ) (s : Bool) → x ≡ Some p → v ≡ part_of b p.at p.len → s ≡ same_bytes v okay
       → s ≡ available (props_of (node_at b n q))
   unfolding available
-  status_here at len v s e ev es = rw (← value_at b n q status_name, ← is, e, ← ev) es
+  status_here p v s e ev es = rw (← value_at b n q status_name, ← is, e, ← ev) es
 
-  pub status_missing : x ≡ Missing → true ≡ available (props_of (node_at b n q))
+  pub status_missing : x ≡ None → true ≡ available (props_of (node_at b n q))
   unfolding available
   status_missing e = rw (← value_at b n q status_name, ← is, e)
 

@@ -16,30 +16,27 @@ use Rattle.cells.specs.declared.RegRow.{RegRow}
 use Rattle.cells.specs.declared.RegRow.TheVariants.{PastReg, RegAt}
 use Rattle.cells.specs.Count.{cell_bytes}
 use Rattle.cells.specs.Rows.{Table, unreadable, rows, number_at, reg_of, reg_row}
-use Rattle.reserved.specs.declared.Number.{Number}
-use Rattle.reserved.specs.declared.Number.TheVariants.{Is, NoNumber}
-use Rattle.reserved.specs.declared.Exact.{Exact}
-use Rattle.reserved.specs.declared.Exact.TheVariants.{One, NotExact}
 use Rattle.reserved.specs.Number.{cells_number}
 use Rattle.reserved.specs.Reserved.{exact_by, exact_of}
 use Rattle.reserved.proofs.NumberLaws.{number_missing, number_read}
+use Rattle.std.specs.Prelude.{Option, Some, None}
 
 -- ── One entry of n bytes ──
 module _ (n : ℕ) where
-  pub of_nothing : (t : Table Region) → n ≡ 0 → NotExact ≡ exact_by n t
+  pub of_nothing : (t : Table Region) → n ≡ 0 → None ≡ exact_by n t
   unfolding exact_by
   of_nothing unreadable h = refl
   of_nothing (rows []) h = refl
   of_nothing (rows (r ∷ [])) h = rw h (go (eqb r.size 0))
     where
-      go : (b : Bool) → NotExact ≡ cond (b && (ltb 0 0 && leb (r.address + 0) (2 ^ 64 - 1))) (One r) NotExact
+      go : (b : Bool) → None ≡ cond (b && (ltb 0 0 && leb (r.address + 0) (2 ^ 64 - 1))) (Some r) None
       go true = refl
       go false = refl
   of_nothing (rows (r ∷ q ∷ l)) h = refl
 
   -- x is row 0, and no region
   pub no_first : (t : Table Region) (x : RegRow) → x ≡ reg_row t 0
-      → ((r : Region) → x ≡ RegAt r → ⊥) → NotExact ≡ exact_by n t
+      → ((r : Region) → x ≡ RegAt r → ⊥) → None ≡ exact_by n t
   unfolding exact_by
   no_first unreadable x e k = refl
   no_first (rows []) x e k = refl
@@ -47,7 +44,7 @@ module _ (n : ℕ) where
 
   -- x is row 1, and not past the last
   pub more_rows : (t : Table Region) (x : RegRow) → x ≡ reg_row t 1
-      → (x ≡ PastReg → ⊥) → NotExact ≡ exact_by n t
+      → (x ≡ PastReg → ⊥) → None ≡ exact_by n t
   unfolding exact_by
   more_rows unreadable x e k = refl
   more_rows (rows []) x e k = refl
@@ -68,30 +65,30 @@ lone_row (rows (q ∷ [])) r x y o = let h : q ≡ r = cc in rw h
 lone_row (rows (q ∷ p ∷ l)) r x y o = never (cc)
 
 module _ (n : ℕ) (t : Table Region) (r : Region) (x y : RegRow) (lone : Lone t r x y) where
-  pub other_size : (r.size ≡ n → ⊥) → NotExact ≡ exact_by n t
+  pub other_size : (r.size ≡ n → ⊥) → None ≡ exact_by n t
   unfolding exact_by
   other_size h = rw (lone_row t r x y lone, ne_eqb _ _ h)
 
   module _ (same : r.size ≡ n) (some : n ≡ 0 → ⊥) where
-    pub too_far : 2 ^ 64 - 1 < r.address + n → NotExact ≡ exact_by n t
+    pub too_far : 2 ^ 64 - 1 < r.address + n → None ≡ exact_by n t
     unfolding exact_by
     too_far h = rw (lone_row t r x y lone, eq-eqb _ _ same, lt-ltb 0 n (omega arith), lt-leb _ _ h)
 
-    pub exactly : r.address + n ≤ 2 ^ 64 - 1 → One r ≡ exact_by n t
+    pub exactly : r.address + n ≤ 2 ^ 64 - 1 → Some r ≡ exact_by n t
     unfolding exact_by
     exactly h = rw (lone_row t r x y lone, eq-eqb _ _ same, lt-ltb 0 n (omega arith), le-leb _ _ h)
 
 -- ── The count and `size` ──
 -- d is not stated
 pub unstated : (a d : CellCount) (size ranges : List ℕ)
-    → ((c : ℕ) → d ≡ Stated c → ⊥) → NotExact ≡ exact_of a d size ranges
+    → ((c : ℕ) → d ≡ Stated c → ⊥) → None ≡ exact_of a d size ranges
 unfolding exact_of
 unstated a (Stated c) size ranges k = absurd (k c refl)
 unstated a Absent size ranges k = refl
 unstated a Faulty size ranges k = refl
 
 module _ (a d : CellCount) (c : ℕ) (stated : d ≡ Stated c) (size ranges : List ℕ) where
-  other_length : (length size ≡ cell_bytes c → ⊥) → NotExact ≡ exact_of a d size ranges
+  other_length : (length size ≡ cell_bytes c → ⊥) → None ≡ exact_of a d size ranges
   unfolding exact_of
   other_length h = rw (stated, ne_eqb _ _ h)
 
@@ -100,26 +97,26 @@ module _ (a d : CellCount) (c : ℕ) (stated : d ≡ Stated c) (size ranges : Li
   own_length h = rw (stated, eq-eqb _ _ h)
 
   -- m is what was read of `size`
-  module _ (m : Number) (is : m ≡ cells_number size c) where
+  module _ (m : Option ℕ) (is : m ≡ cells_number size c) where
     -- no number: the bytes are too few, or cells are not 1 or 2, so that they take no bytes and say 0
-    pub no_number : m ≡ NoNumber → NotExact ≡ exact_of a d size ranges
+    pub no_number : m ≡ None → None ≡ exact_of a d size ranges
     no_number e = ⊎_elim none (λ short. other_length (λ h. omega arith)) (number_missing size c m is e)
       where
-        none : cell_bytes c ≡ 0 → NotExact ≡ exact_of a d size ranges
+        none : cell_bytes c ≡ 0 → None ≡ exact_of a d size ranges
         none z = go (eqb (length size) 0) refl
           where
-            go : (b : Bool) → eqb (length size) 0 ≡ b → NotExact ≡ exact_of a d size ranges
+            go : (b : Bool) → eqb (length size) 0 ≡ b → None ≡ exact_of a d size ranges
             go true u =
                 let h : length size ≡ 0 = eqb-true _ _ u in
                 of_nothing _ _ (rw z (double_past size 0 (omega arith))) ∙ own_length (omega arith)
             go false u = other_length (λ h. eqb-false _ _ u (h ∙ z))
 
-    module _ (n : ℕ) (read : m ≡ Is n) where
-      pub not_long : (length size ≡ c * 4 → ⊥) → NotExact ≡ exact_of a d size ranges
+    module _ (n : ℕ) (read : m ≡ Some n) where
+      pub not_long : (length size ≡ c * 4 → ⊥) → None ≡ exact_of a d size ranges
       not_long h = other_length (λ e. h (e ∙ (number_read size c m is n read).0))
 
       -- what is left is for the rows to say
-      pub by_rows : length size ≡ c * 4 → (x : Exact) → x ≡ exact_by n (reg_of a (Stated c) ranges) → x ≡ exact_of a d size ranges
+      pub by_rows : length size ≡ c * 4 → (x : Option Region) → x ≡ exact_by n (reg_of a (Stated c) ranges) → x ≡ exact_of a d size ranges
       by_rows h x e =
           let w = number_read size c m is n read in
           e ∙ ap (λ (k : ℕ). exact_by k (reg_of a (Stated c) ranges)) w.2 ∙ own_length (h ∙ sym w.0)

@@ -13,9 +13,8 @@ use Rattle.words.specs.Bytes.{word, double}
 use Rattle.words.proofs.BytesLaws.{never, cond_elim}
 use Rattle.cells.specs.Count.{cell_bytes}
 use Rattle.cells.specs.Rows.{number_at}
-use Rattle.reserved.specs.declared.Number.{Number}
-use Rattle.reserved.specs.declared.Number.TheVariants.{Is, NoNumber}
 use Rattle.reserved.specs.Number.{cells_number}
+use Rattle.std.specs.Prelude.{Option, Some, None}
 
 -- cells that take bytes take four each, and are at most two
 four_each : (c : ℕ) → (cell_bytes c ≡ 0 → ⊥) → (cell_bytes c ≡ c * 4) × (c ≤ 2)
@@ -28,32 +27,32 @@ four_each c =
     (λ u o. absurd (o refl)))
 
 module _ (v : List ℕ) (c : ℕ) where
-  by_width : cells_number v c ≡ cond (eqb (cell_bytes c) 0) NoNumber (cond (leb (cell_bytes c) (length v)) (Is (number_at v (cell_bytes c) 0)) NoNumber)
+  by_width : cells_number v c ≡ cond (eqb (cell_bytes c) 0) None (cond (leb (cell_bytes c) (length v)) (Some (number_at v (cell_bytes c) 0)) None)
   unfolding cells_number cell_bytes
   by_width = go (eqb c 1) (eqb c 2)
     where
       go : (p q : Bool)
-          → cond p (cond (leb 4 (length v)) (Is (word v 0)) NoNumber) (cond q (cond (leb 8 (length v)) (Is (double v 0)) NoNumber) NoNumber)
-          ≡ cond (eqb (cond p 4 (cond q 8 0)) 0) NoNumber
-          (cond (leb (cond p 4 (cond q 8 0)) (length v)) (Is (number_at v (cond p 4 (cond q 8 0)) 0)) NoNumber)
+          → cond p (cond (leb 4 (length v)) (Some (word v 0)) None) (cond q (cond (leb 8 (length v)) (Some (double v 0)) None) None)
+          ≡ cond (eqb (cond p 4 (cond q 8 0)) 0) None
+          (cond (leb (cond p 4 (cond q 8 0)) (length v)) (Some (number_at v (cond p 4 (cond q 8 0)) 0)) None)
       go true q = refl
       go false true = refl
       go false false = refl
 
   -- each answer by the bytes in hand
   module _ (w : ℕ) (e : cell_bytes c ≡ w) where
-    pub number_none : w ≡ 0 → NoNumber ≡ cells_number v c
+    pub number_none : w ≡ 0 → None ≡ cells_number v c
     number_none h = rw (by_width, e, h)
 
-    pub number_short : length v < w → NoNumber ≡ cells_number v c
+    pub number_short : length v < w → None ≡ cells_number v c
     number_short h = let o : w ≡ 0 → ⊥ = λ z. omega arith in rw (by_width, e, ne_eqb _ _ o, lt-leb _ _ h)
 
-    pub number_is : (w ≡ 0 → ⊥) → w ≤ length v → (n : ℕ) → n ≡ number_at v w 0 → Is n ≡ cells_number v c
+    pub number_is : (w ≡ 0 → ⊥) → w ≤ length v → (n : ℕ) → n ≡ number_at v w 0 → Some n ≡ cells_number v c
     number_is o h n i = rw (by_width, e, ne_eqb _ _ o, le-leb _ _ h, i)
 
   -- what an answer in hand says
-  module _ (m : Number) (is : m ≡ cells_number v c) where
-    pub number_missing : m ≡ NoNumber → (cell_bytes c ≡ 0) ⊎ (length v < cell_bytes c)
+  module _ (m : Option ℕ) (is : m ≡ cells_number v c) where
+    pub number_missing : m ≡ None → (cell_bytes c ≡ 0) ⊎ (length v < cell_bytes c)
     number_missing h = go (eqb (cell_bytes c) 0) refl (leb (cell_bytes c) (length v)) refl
       where
         go : (p : Bool) → eqb (cell_bytes c) 0 ≡ p → (q : Bool) → leb (cell_bytes c) (length v) ≡ q
@@ -62,7 +61,7 @@ module _ (v : List ℕ) (c : ℕ) where
         go false e true u = let i = number_is _ refl (eqb-false _ _ e) (leb-true _ _ u) _ refl in never (cc)
         go false e false u = inr (leb-false _ _ u)
 
-    pub number_read : (n : ℕ) → m ≡ Is n → (cell_bytes c ≡ c * 4) × (c ≤ 2) × (n ≡ number_at v (cell_bytes c) 0)
+    pub number_read : (n : ℕ) → m ≡ Some n → (cell_bytes c ≡ c * 4) × (c ≤ 2) × (n ≡ number_at v (cell_bytes c) 0)
     number_read n h = go (eqb (cell_bytes c) 0) refl (leb (cell_bytes c) (length v)) refl
       where
         go : (p : Bool) → eqb (cell_bytes c) 0 ≡ p → (q : Bool) → leb (cell_bytes c) (length v) ≡ q

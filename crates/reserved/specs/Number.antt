@@ -1,11 +1,9 @@
 -- A number of cells from the front of some bytes, as cells_to_usize reads it.
-use Rattle.std.specs.Prelude.{ℕ, List, cond, length, eqb, leb}
+use Rattle.std.specs.Prelude.{ℕ, List, cond, length, eqb, leb, Option, Some, None}
 use Rattle.words.specs.Bytes.{word, double}
-use Rattle.reserved.specs.declared.Number.{Number}
-use Rattle.reserved.specs.declared.Number.TheVariants.{Is, NoNumber}
 
 -- one cell has 4 bytes, two have 8; no number for any other count or too few bytes
-unfoldable pub cells_number : List ℕ → ℕ → Number
+unfoldable pub cells_number : List ℕ → ℕ → Option ℕ
 cells_number v cells =
-    cond (eqb cells 1) (cond (leb 4 (length v)) (Is (word v 0)) NoNumber)
-    (cond (eqb cells 2) (cond (leb 8 (length v)) (Is (double v 0)) NoNumber) NoNumber)
+    cond (eqb cells 1) (cond (leb 4 (length v)) (Some (word v 0)) None)
+    (cond (eqb cells 2) (cond (leb 8 (length v)) (Some (double v 0)) None) None)

@@ -7,39 +7,24 @@ ghost use Rattle.reserved.specs.Number.{cells_number};
 ghost use Rattle.reserved.specs.Reserved.{available, stated_alike, children_count, exact_of};
 
 use cells::{CellCount, RegRow, Region};
-use nodes::Value;
 
-// A number of cells, or that it cannot be read.
-#[derive(Clone, Copy)]
-pub enum Number {
-    Is(u64),
-    NoNumber,
-}
-
-// The one region that a dynamic reservation can only be, or that it is left open.
-#[derive(Clone, Copy)]
-pub enum Exact {
-    One(Region),
-    NotExact,
-}
-
-// The number in the first cells of some bytes: one cell or two.
-pub fn cells_to_usize(bytes: &[u8], cells: usize) -> Number
+// The number in the first cells of some bytes, one cell or two; nothing where it cannot be read.
+pub fn cells_to_usize(bytes: &[u8], cells: usize) -> Option<u64>
     ensures { result ≡ cells_number bytes.now cells }
 {
     if cells == 1 {
         if bytes.len() < 4 {
-            return Number::NoNumber;
+            return None;
         }
-        return Number::Is(words::be32(bytes, 0) as u64);
+        return Some(words::be32(bytes, 0) as u64);
     }
     if cells == 2 {
         if bytes.len() < 8 {
-            return Number::NoNumber;
+            return None;
         }
-        return Number::Is(words::be64(bytes, 0));
+        return Some(words::be64(bytes, 0));
     }
-    Number::NoNumber
+    None
 }
 
 // Whether both nodes state the count, and the same one.
@@ -70,8 +55,8 @@ pub fn children_count<'a>(structure: &'a [u8], strings: &'a [u8], root: usize, n
         return false;
     }
     match nodes::getprop(structure, strings, node, b"ranges") {
-        Value::Here(_, len) => len == 0,
-        Value::Missing => false,
+        Some(ranges) => ranges.len == 0,
+        None => false,
     }
 }
 
@@ -84,43 +69,41 @@ pub fn reserved_memory_node_is_available<'a>(
     ensures { result ≡ available (props_of (node_at structure.now strings.now node)) }
 {
     match nodes::getprop(structure, strings, node, b"status") {
-        Value::Here(at, len) => nodes::same(words::part(structure, at, len), b"okay\0"),
-        Value::Missing => true,
+        Some(value) => nodes::same(words::part(structure, value.at, value.len), b"okay\0"),
+        None => true,
     }
 }
 
-// The region of a dynamic reservation whose `alloc-ranges` leave it no choice. Both values are read by /reserved-memory's own cells.
+// The one region that a dynamic reservation can only be, where its `alloc-ranges` leave it no choice. Both values are read by /reserved-memory's own cells.
 pub fn visit_exact_dynamic_reserved_memory_range<'a>(
     size: &'a [u8],
     ranges: &'a [u8],
     address: CellCount,
     length: CellCount,
-) -> Exact
+) -> Option<Region>
     ensures { result ≡ exact_of address length size.now ranges.now }
 {
     let CellCount::Stated(cells) = length else {
-        return Exact::NotExact;
+        return None;
     };
-    let Number::Is(bytes) = cells_to_usize(size, cells) else {
-        return Exact::NotExact;
-    };
+    let bytes = cells_to_usize(size, cells)?;
     if size.len() != cells * 4 {
-        return Exact::NotExact;
+        return None;
     }
     let RegRow::RegAt(region) = cells::reg_row(ranges, address, length, 0) else {
-        return Exact::NotExact;
+        return None;
     };
     let RegRow::PastReg = cells::reg_row(ranges, address, length, 1) else {
-        return Exact::NotExact;
+        return None;
     };
     if bytes == 0 {
-        return Exact::NotExact;
+        return None;
     }
     if region.size != bytes {
-        return Exact::NotExact;
+        return None;
     }
     if 0xffff_ffff_ffff_ffff - region.address < bytes {
-        return Exact::NotExact;
+        return None;
     }
-    Exact::One(region)
+    Some(region)
 }

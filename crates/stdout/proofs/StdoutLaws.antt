@@ -5,17 +5,12 @@ use Prim.Native.Nat.{ℕ, ◌-◌}
 use native.Mathlib.Omega.{arith}
 use mathlib.Core.Bool.{cond}
 use mathlib.Core.List.{List, [], ◌∷◌}
-use mathlib.Core.Option.{Option, some, none as nothing}
 use lib.ListN.{length, get_or, get_or-eq_default}
 use lib.Dec.{eqb}
 use borrow.Author.Tests.{eq-eqb, ne_eqb}
 use Rattle.words.specs.Bytes.{part_of, Finds}
 use Rattle.words.proofs.BytesLaws.{cond_elim, never}
 use Rattle.fdt.specs.Tree.{Nodes, none, node}
-use Rattle.nodes.specs.declared.Found.{Found}
-use Rattle.nodes.specs.declared.Found.TheVariants.{At, Nothing}
-use Rattle.nodes.specs.declared.Value.{Value}
-use Rattle.nodes.specs.declared.Value.TheVariants.{Here, Missing}
 use Rattle.nodes.specs.Nav.{prop_at, child_at}
 use Rattle.nodes.specs.Path.{path_at}
 use Rattle.nodes.specs.OnTree.{head_of, find_k, kids_of}
@@ -27,10 +22,11 @@ use Rattle.subtree.proofs.SubtreeLaws.{value_at, child_at_lem, path_at_lem, path
 use Rattle.text.specs.Strings.{string_in, string_at}
 use Rattle.text.proofs.StringLaws.{string_held}
 use Rattle.translation.specs.declared.Sought.TheVariants.{FirstReg}
-use Rattle.translation.specs.declared.Translated.{Translated}
 use Rattle.translation.specs.Translation.{translated}
-use Rattle.stdout.specs.declared.Uart.TheVariants.{NoUart}
 use Rattle.stdout.specs.Stdout.{before_colon, aliased, named, stdout_by, stdout_in, is_there, uart_at, uart_by, uart_of}
+use Rattle.std.specs.Prelude.{Option, Some, None}
+use Rattle.fdt.specs.declared.Block.{Block}
+use Rattle.translation.specs.declared.Translated.{Translated}
 
 -- ── Paths ──
 module _ (b n : List ℕ) where
@@ -43,27 +39,27 @@ module _ (b n : List ℕ) where
   path_back path = ap (at b n) (sym (path_head path)) ∙ path_at_lem b n path
 
 -- ── A string of a node below the root ──
-module _ (b n : List ℕ) (root : ℕ) (is : node_at b n root ≡ root_at b n) (name prop : List ℕ) (f : Found) (e : f ≡ child_at b n root name) where
+module _ (b n : List ℕ) (root : ℕ) (is : node_at b n root ≡ root_at b n) (name prop : List ℕ) (f : Option ℕ) (e : f ≡ child_at b n root name) where
   child_under : at b n f ≡ under_root name (root_at b n)
   child_under = ap (at b n) e ∙ child_at_lem b n root name ∙ ap (λ (t : Nodes). find_k name (kids_of t)) is
 
-  string_under : (q : ℕ) → f ≡ At q → (v : Value) → v ≡ string_at b n q prop → held b v ≡ string_in (value_of prop (props_of (under_root name (root_at b n))))
+  string_under : (q : ℕ) → f ≡ Some q → (v : Option Block) → v ≡ string_at b n q prop → held b v ≡ string_in (value_of prop (props_of (under_root name (root_at b n))))
   string_under q g v h = rw (← child_under, g) (ap (held b) h ∙ string_held b n q prop ∙ ap string_in (value_at b n q prop))
 
   -- what k makes of the string: no such child, no such string, or the bytes that are found
   module _ (k : Nodes → Option (List ℕ) → Nodes) where
-    pub string_nowhere : f ≡ Nothing → head_of (k (root_at b n) nothing) ≡ head_of (k (root_at b n) (string_in (value_of prop (props_of (under_root name (root_at b n))))))
+    pub string_nowhere : f ≡ None → head_of (k (root_at b n) None) ≡ head_of (k (root_at b n) (string_in (value_of prop (props_of (under_root name (root_at b n))))))
     unfolding string_in value_of
     string_nowhere g = rw (← child_under, g)
 
-    module _ (q : ℕ) (g : f ≡ At q) (v : Value) (h : v ≡ string_at b n q prop) where
-      pub string_missing : v ≡ Missing
-          → head_of (k (root_at b n) nothing) ≡ head_of (k (root_at b n) (string_in (value_of prop (props_of (under_root name (root_at b n))))))
+    module _ (q : ℕ) (g : f ≡ Some q) (v : Option Block) (h : v ≡ string_at b n q prop) where
+      pub string_missing : v ≡ None
+          → head_of (k (root_at b n) None) ≡ head_of (k (root_at b n) (string_in (value_of prop (props_of (under_root name (root_at b n))))))
       string_missing m = rw (← string_under q g v h, m)
 
-      pub string_here : (at len : ℕ) (s : List ℕ) → v ≡ Here at len → s ≡ part_of b at len
-          → head_of (k (root_at b n) (some s)) ≡ head_of (k (root_at b n) (string_in (value_of prop (props_of (under_root name (root_at b n))))))
-      string_here at len s m p = rw (← string_under q g v h, m, p)
+      pub string_here : (p : Block) (s : List ℕ) → v ≡ Some p → s ≡ part_of b p.at p.len
+          → head_of (k (root_at b n) (Some s)) ≡ head_of (k (root_at b n) (string_in (value_of prop (props_of (under_root name (root_at b n))))))
+      string_here p s m o = rw (← string_under q g v h, m, o)
 
 -- ── The node of a name ──
 module _ (t : Nodes) (s : List ℕ) where
@@ -79,21 +75,21 @@ module _ (t : Nodes) (s : List ℕ) where
   named_empty h = let d = get_or-eq_default s 0 {n = 0} (omega arith) in named_alias (λ e. omega arith)
 
 -- ── The stdout node ──
-module _ (b n : List ℕ) (f : Found) (e : f ≡ path_at b n (47 ∷ [])) where
+module _ (b n : List ℕ) (f : Option ℕ) (e : f ≡ path_at b n (47 ∷ [])) where
   -- the path `/` leads to the root
   root_at_lem : at b n f ≡ root_at b n
   unfolding path_to
   root_at_lem = ap (at b n) e ∙ path_at_lem b n (47 ∷ [])
 
-  pub root_is : (q : ℕ) → f ≡ At q → node_at b n q ≡ root_at b n
+  pub root_is : (q : ℕ) → f ≡ Some q → node_at b n q ≡ root_at b n
   root_is q g = ap (at b n) (sym g) ∙ root_at_lem
 
-  pub stdout_rootless : f ≡ Nothing → Nothing ≡ head_of (stdout_in (root_at b n))
+  pub stdout_rootless : f ≡ None → None ≡ head_of (stdout_in (root_at b n))
   unfolding stdout_in find_k value_of string_in
   stdout_rootless g = rw (← root_at_lem, g)
 
 -- the name is the string up to the colon
-pub stdout_named : (t : Nodes) (s : List ℕ) (c : ℕ) (p : List ℕ) → Finds 58 s 0 c → p ≡ part_of s 0 c → head_of (named t p) ≡ head_of (stdout_by t (some s))
+pub stdout_named : (t : Nodes) (s : List ℕ) (c : ℕ) (p : List ℕ) → Finds 58 s 0 c → p ≡ part_of s 0 c → head_of (named t p) ≡ head_of (stdout_by t (Some s))
 stdout_named t s c p f e =
     let i = f.is in
     let u = f.upto (omega arith) in
@@ -102,8 +98,8 @@ stdout_named t s c p f e =
 
 module _ (b n : List ℕ) where
   alias_at : (o : Option (List ℕ)) → at b n (head_of (aliased (root_at b n) o)) ≡ aliased (root_at b n) o
-  alias_at nothing = refl
-  alias_at (some path) = path_back b n _
+  alias_at None = refl
+  alias_at (Some path) = path_back b n _
 
   named_at : (s : List ℕ) → at b n (head_of (named (root_at b n) s)) ≡ named (root_at b n) s
   unfolding named
@@ -117,32 +113,32 @@ module _ (b n : List ℕ) where
   stdout_at = go (string_in (value_of stdout_path_name (props_of (under_root chosen_name (root_at b n)))))
     where
       go : (o : Option (List ℕ)) → at b n (head_of (stdout_by (root_at b n) o)) ≡ stdout_by (root_at b n) o
-      go nothing = refl
-      go (some s) = named_at (before_colon s)
+      go None = refl
+      go (Some s) = named_at (before_colon s)
 
 -- ── Its claim ──
-uart_by_lem : (t k : Nodes) (q : ℕ) → head_of k ≡ At q
-    → uart_by t k ≡ cond (is_there (value_of compatible_name (props_of k))) (uart_at (translated t q FirstReg)) NoUart
+uart_by_lem : (t k : Nodes) (q : ℕ) → head_of k ≡ Some q
+    → uart_by t k ≡ cond (is_there (value_of compatible_name (props_of k))) (uart_at (translated t q FirstReg)) None
 uart_by_lem t none q e = never (cc)
 uart_by_lem t (node p nm ps kids rest) q e = let i : p ≡ q = cc in rw i
 
-module _ (b n : List ℕ) (f : Found) (e : f ≡ head_of (stdout_in (root_at b n))) where
-  pub uart_nowhere : f ≡ Nothing → NoUart ≡ uart_of (root_at b n)
+module _ (b n : List ℕ) (f : Option ℕ) (e : f ≡ head_of (stdout_in (root_at b n))) where
+  pub uart_nowhere : f ≡ None → None ≡ uart_of (root_at b n)
   unfolding uart_of
   uart_nowhere g = rw (← stdout_at b n, ← e, g)
 
-  module _ (q : ℕ) (g : f ≡ At q) (v : Value) (h : v ≡ prop_at b n q compatible_name) where
+  module _ (q : ℕ) (g : f ≡ Some q) (v : Option Block) (h : v ≡ prop_at b n q compatible_name) where
     stdout_is : node_at b n q ≡ stdout_in (root_at b n)
     stdout_is = ap (at b n) (sym g ∙ e) ∙ stdout_at b n
 
-    uart_is : cond (is_there (held b v)) (uart_at (translated (root_at b n) q FirstReg)) NoUart ≡ uart_of (root_at b n)
+    uart_is : cond (is_there (held b v)) (uart_at (translated (root_at b n) q FirstReg)) None ≡ uart_of (root_at b n)
     unfolding uart_of
     uart_is =
         rw (h, value_at b n q compatible_name, stdout_is)
         (sym (uart_by_lem (root_at b n) (stdout_in (root_at b n)) q (sym e ∙ g)))
 
-    pub uart_incompatible : v ≡ Missing → NoUart ≡ uart_of (root_at b n)
+    pub uart_incompatible : v ≡ None → None ≡ uart_of (root_at b n)
     uart_incompatible m = rw m at uart_is
 
-    pub uart_translated : (at len : ℕ) (r : Translated) → v ≡ Here at len → r ≡ translated (root_at b n) q FirstReg → uart_at r ≡ uart_of (root_at b n)
-    uart_translated at len r m i = ap uart_at i ∙ (rw m at uart_is)
+    pub uart_translated : (p : Block) (r : Option Translated) → v ≡ Some p → r ≡ translated (root_at b n) q FirstReg → uart_at r ≡ uart_of (root_at b n)
+    uart_translated p r m i = ap uart_at i ∙ (rw m at uart_is)

@@ -7,7 +7,6 @@ use native.Mathlib.Nat.{div-le_self}
 use native.Mathlib.Omega.{arith}
 use mathlib.Core.Bool.{Bool, true, false, cond, or-true}
 use mathlib.Core.List.{List}
-use mathlib.Core.Option.{Option, some, none as nothing}
 use lib.ListN.{length}
 use lib.Dec.{leb}
 use borrow.Author.Tests.{eq-eqb, ne_eqb, le-leb, lt-leb, leb-true, leb-false}
@@ -28,14 +27,11 @@ use Rattle.windows.specs.declared.Window.{Window}
 use Rattle.reservations.specs.declared.Reservation.{Reservation}
 use Rattle.reservations.specs.declared.Reservation.TheVariants.{Entry, End, Past}
 use Rattle.reservations.specs.Reservations.{entry_of}
-use Rattle.nodes.specs.declared.Found.{Found}
-use Rattle.nodes.specs.declared.Found.TheVariants.{At, Nothing}
 use Rattle.nodes.specs.Nav.{inside, prop_at, child_at}
 use Rattle.nodes.specs.Path.{path_at}
 use Rattle.subtree.specs.Names.{ranges_name, soc_name, reserved_memory_name}
 use Rattle.subtree.specs.Subtree.{node_at, root_at, props_of}
 use Rattle.reserved.specs.Reserved.{children_count}
-use Rattle.stdout.specs.declared.Uart.{Uart}
 use Rattle.stdout.specs.Stdout.{uart_of}
 use Rattle.claims.specs.declared.Way.{Way}
 use Rattle.claims.specs.declared.Way.TheVariants.{Reserve, Soc, Controllers}
@@ -44,24 +40,25 @@ use Rattle.visit.specs.declared.Stage.{Stage}
 use Rattle.visit.specs.declared.Cursor.{Cursor}
 use Rattle.visit.specs.declared.Step.TheVariants.{On}
 use Rattle.visit.specs.Steps.{next_row, slash, where_here, parent_at, enter_at, yields, entry_step, row_step, child_step, stage_step, step_of}
+use Rattle.std.specs.Prelude.{Option, Some, None}
 
 -- ── The parent of a rule's children ──
-module _ (b n : List ℕ) (f : Found) (is : f ≡ path_at b n slash) where
-  pub rootless : f ≡ Nothing → (way : Way) → Nothing ≡ parent_at b n way
+module _ (b n : List ℕ) (f : Option ℕ) (is : f ≡ path_at b n slash) where
+  pub rootless : f ≡ None → (way : Way) → None ≡ parent_at b n way
   unfolding parent_at
   rootless e Reserve = rw (← is, e)
   rootless e Soc = rw (← is, e)
   rootless e Controllers = rw (← is, e)
 
   -- g is the root's child of the name
-  module _ (r : ℕ) (root : f ≡ At r) (g h : Found) (found : g ≡ h) where
+  module _ (r : ℕ) (root : f ≡ Some r) (g h : Option ℕ) (found : g ≡ h) where
     pub reserved_is :
         g ≡ child_at b n r reserved_memory_name
-        → inside Nothing (λ q. cond (children_count (props_of (node_at b n r)) (props_of (node_at b n q))) (At q) Nothing) h ≡ parent_at b n Reserve
+        → inside None (λ q. cond (children_count (props_of (node_at b n r)) (props_of (node_at b n q))) (Some q) None) h ≡ parent_at b n Reserve
     unfolding parent_at
     reserved_is e = rw (← is, root, ← e, found)
 
-    pub soc_is : g ≡ child_at b n r soc_name → inside Nothing (λ q. where_here (prop_at b n q ranges_name) q) h ≡ parent_at b n Soc
+    pub soc_is : g ≡ child_at b n r soc_name → inside None (λ q. where_here (prop_at b n q ranges_name) q) h ≡ parent_at b n Soc
     unfolding parent_at
     soc_is e = rw (← is, root, ← e, found)
 
@@ -92,16 +89,16 @@ pub entry_gives :
 entry_gives b n v i c d x is r e o q s = rw (← is, e, q, s)
 
 module _ (r : Region) where
-  pub block_empty : r.size ≡ 0 → block_claim r ≡ nothing
+  pub block_empty : r.size ≡ 0 → block_claim r ≡ None
   unfolding block_claim
   block_empty h = rw (eq-eqb r.size 0 h)
 
-  pub block_far : 0xffffffffffffffff - r.address < r.size → block_claim r ≡ nothing
+  pub block_far : 0xffffffffffffffff - r.address < r.size → block_claim r ≡ None
   unfolding block_claim
   block_far h = let m : 2 ^ 64 ≤ r.address + r.size = omega arith in rw (le-leb (2 ^ 64) (r.address + r.size) m, or-true)
 
   pub block_near :
-      (r.size ≡ 0 → ⊥) → r.size ≤ 0xffffffffffffffff - r.address → block_claim r ≡ some (claim r.address r.size (number_of Reserved))
+      (r.size ≡ 0 → ⊥) → r.size ≤ 0xffffffffffffffff - r.address → block_claim r ≡ Some (claim r.address r.size (number_of Reserved))
   unfolding block_claim
   block_near n h =
       let m : r.address + r.size < 2 ^ 64 = omega arith in
@@ -140,7 +137,7 @@ module _ (b : List ℕ) (at n : ℕ) (v : List ℕ) (part : v ≡ part_of b at n
   lies is e = rw (← part, ← is, e)
 
 -- ── The console ──
-pub console_is : (b n : List ℕ) (d : Cursor) → d ≡ enter_at b n Controllers → (u w : Uart) → u ≡ uart_of (root_at b n) → u ≡ w
+pub console_is : (b n : List ℕ) (d : Cursor) → d ≡ enter_at b n Controllers → (u w : Option Region) → u ≡ uart_of (root_at b n) → u ≡ w
     → yields (uart_claim w) d ≡ yields (uart_claim (uart_of (root_at b n))) (enter_at b n Controllers)
 console_is b n d s u w is e = rw (← is, e, s)
 

@@ -5,7 +5,6 @@ use Prim.Native.Nat.{ℕ}
 use native.Mathlib.Omega.{arith}
 use mathlib.Core.Bool.{Bool, true, false, cond}
 use mathlib.Core.List.{List, [], ◌∷◌, ◌++◌}
-use mathlib.Core.Option.{Option, none as nothing}
 use lib.ListN.{length}
 use Rattle.words.specs.Bytes.{part_of}
 use Rattle.words.proofs.BytesLaws.{part_length}
@@ -17,10 +16,6 @@ use Rattle.cells.specs.Rows.{Table, rows, reg_of, ranges_of}
 use Rattle.cells.proofs.RowsLaws.{reg_none, ranges_none}
 use Rattle.fdt.specs.declared.Block.{Block}
 use Rattle.fdt.specs.Tree.{Property}
-use Rattle.nodes.specs.declared.Found.{Found}
-use Rattle.nodes.specs.declared.Found.TheVariants.{At, Nothing}
-use Rattle.nodes.specs.declared.Value.{Value}
-use Rattle.nodes.specs.declared.Value.TheVariants.{Here, Missing}
 use Rattle.nodes.specs.Nav.{inside, first_at, prop_at, child_at}
 use Rattle.nodes.specs.Path.{path_at}
 use Rattle.nodes.specs.Cells.{address_cells, size_cells, count_at}
@@ -38,6 +33,7 @@ use Rattle.visit.specs.declared.Stage.TheVariants.{Children}
 use Rattle.visit.specs.declared.Cursor.{Cursor}
 use Rattle.visit.specs.Steps.{no_part, cursor_at, start_at, part_by, slash, where_here, parent_at, root_cells, ranges_by, enter_at}
 use Rattle.visit.specs.Script.{rows_script, kids_script, soc_script, way_script, after_on, script}
+use Rattle.std.specs.Prelude.{Option, Some, None}
 
 -- ── Empty parts ──
 module _ (b : List ℕ) (a p c : CellCount) where
@@ -46,9 +42,9 @@ module _ (b : List ℕ) (a p c : CellCount) where
   no_ranges = ranges_none a p c (part_of b 0 0) (part_length b 0 0 (omega arith))
 
   -- a missing value is kept as an empty part, and has no rows
-  pub value_part : (v : Value) → reg_of a c (part_of b (part_by v).at (part_by v).len) ≡ reg_of a c (value_in b v)
-  value_part (Here at len) = refl
-  value_part Missing = reg_none a c (part_of b 0 0) (part_length b 0 0 (omega arith)) ∙ sym (reg_none a c [] refl)
+  pub value_part : (v : Option Block) → reg_of a c (part_of b (part_by v).at (part_by v).len) ≡ reg_of a c (value_in b v)
+  value_part (Some v) = refl
+  value_part None = reg_none a c (part_of b 0 0) (part_length b 0 0 (omega arith)) ∙ sym (reg_none a c [] refl)
 
 -- ── Where nothing claims ──
 unlike : (x : CellCount) → stated_alike x Absent ≡ false
@@ -96,16 +92,16 @@ module _ (b n : List ℕ) where
   -- /reserved-memory's children
   module _ (r : ℕ) where
     reserved_found :
-        (g : Found)
-        → inside [] (kept_of Reserve) (inside Nothing (λ q. cond (children_count (props_of (node_at b n r)) (props_of (node_at b n q))) (At q) Nothing) g)
+        (g : Option ℕ)
+        → inside [] (kept_of Reserve) (inside None (λ q. cond (children_count (props_of (node_at b n r)) (props_of (node_at b n q))) (Some q) None) g)
         ≡ cond (children_count (props_of (node_at b n r)) (props_of (at b n g)))
         (kids_script Reserve (rows []) (address_of (props_of (at b n g))) (size_of (props_of (at b n g))) (kids_of (at b n g)))
         []
-    reserved_found Nothing = rw count_none
-    reserved_found (At q) = pick (children_count (props_of (node_at b n r)) (props_of (node_at b n q)))
+    reserved_found None = rw count_none
+    reserved_found (Some q) = pick (children_count (props_of (node_at b n r)) (props_of (node_at b n q)))
       where
         pick : (t : Bool)
-            → inside [] (kept_of Reserve) (cond t (At q) Nothing)
+            → inside [] (kept_of Reserve) (cond t (Some q) None)
             ≡ cond t (kids_script Reserve (rows []) (address_of (props_of (node_at b n q))) (size_of (props_of (node_at b n q))) (kids_of (node_at b n q))) []
         pick true = kept_is Reserve q (rows []) (no_ranges b _ _ _)
         pick false = refl
@@ -113,46 +109,46 @@ module _ (b n : List ℕ) where
     -- /soc's, whose ranges are by the root's address cells
     soc_found :
         count_at b n r address_cells ≡ root_cells b n
-        → (g : Found)
-        → inside [] (kept_of Soc) (inside Nothing (λ q. where_here (prop_at b n q ranges_name) q) g)
+        → (g : Option ℕ)
+        → inside [] (kept_of Soc) (inside None (λ q. where_here (prop_at b n q ranges_name) q) g)
         ≡ soc_script (node_at b n r) (at b n g) (value_of ranges_name (props_of (at b n g)))
     unfolding value_of
-    soc_found e Nothing = refl
-    soc_found e (At q) = rw (← value_at b n q ranges_name) (pick (prop_at b n q ranges_name) refl)
+    soc_found e None = refl
+    soc_found e (Some q) = rw (← value_at b n q ranges_name) (pick (prop_at b n q ranges_name) refl)
       where
-        pick : (v : Value) → prop_at b n q ranges_name ≡ v
+        pick : (v : Option Block) → prop_at b n q ranges_name ≡ v
             → inside [] (kept_of Soc) (where_here v q) ≡ soc_script (node_at b n r) (node_at b n q) (held b v)
-        pick (Here at len) u = kept_is Soc q _ (rw (u, ← e, own_cells r))
-        pick Missing u = refl
+        pick (Some v) u = kept_is Soc q _ (rw (u, ← e, own_cells r))
+        pick None u = refl
 
   -- the children of the parent that is found are the rule's children in the tree
   way_is : (way : Way) → inside [] (kept_of way) (parent_at b n way) ≡ way_script (root_at b n) way
   unfolding parent_at way_script root_cells find_k value_of kids_script
   way_is Reserve = rw (← root_at_lem) (go (path_at b n slash))
     where
-      go : (f : Found)
+      go : (f : Option ℕ)
           → inside [] (kept_of Reserve)
-          (inside Nothing
-          (λ r. inside Nothing (λ q. cond (children_count (props_of (node_at b n r)) (props_of (node_at b n q))) (At q) Nothing) (child_at b n r reserved_memory_name))
+          (inside None
+          (λ r. inside None (λ q. cond (children_count (props_of (node_at b n r)) (props_of (node_at b n q))) (Some q) None) (child_at b n r reserved_memory_name))
           f)
           ≡ way_script (at b n f) Reserve
-      go Nothing = rw count_none
-      go (At r) = rw (← child_at_lem b n r reserved_memory_name) (reserved_found r (child_at b n r reserved_memory_name))
+      go None = rw count_none
+      go (Some r) = rw (← child_at_lem b n r reserved_memory_name) (reserved_found r (child_at b n r reserved_memory_name))
   way_is Soc = rw (← root_at_lem) (go (path_at b n slash) refl)
     where
-      go : (f : Found) → path_at b n slash ≡ f
-          → inside [] (kept_of Soc) (inside Nothing (λ r. inside Nothing (λ q. where_here (prop_at b n q ranges_name) q) (child_at b n r soc_name)) f)
+      go : (f : Option ℕ) → path_at b n slash ≡ f
+          → inside [] (kept_of Soc) (inside None (λ r. inside None (λ q. where_here (prop_at b n q ranges_name) q) (child_at b n r soc_name)) f)
           ≡ way_script (at b n f) Soc
-      go Nothing e = refl
-      go (At r) e = rw (← child_at_lem b n r soc_name) (soc_found r (rw e) (child_at b n r soc_name))
+      go None e = refl
+      go (Some r) e = rw (← child_at_lem b n r soc_name) (soc_found r (rw e) (child_at b n r soc_name))
   way_is Controllers = rw (← root_at_lem) (go (path_at b n slash))
     where
-      go : (f : Found) → inside [] (kept_of Controllers) f ≡ way_script (at b n f) Controllers
-      go Nothing = refl
-      go (At r) = kept_is Controllers r (rows []) (no_ranges b _ _ _)
+      go : (f : Option ℕ) → inside [] (kept_of Controllers) f ≡ way_script (at b n f) Controllers
+      go None = refl
+      go (Some r) = kept_is Controllers r (rows []) (no_ranges b _ _ _)
 
   -- the cursor before the first child of this parent
-  abbrev before : Way → Found → Cursor
+  abbrev before : Way → Option ℕ → Cursor
   before way =
       inside (start_at (Children way))
       (λ q.
@@ -160,26 +156,26 @@ module _ (b n : List ℕ) where
 
   module _ (block : List ℕ) (arm : Bool) where
     -- before the first child no value is in hand
-    before_first : (way : Way) (next : Found) (own parent length : CellCount) (ranges : Block)
+    before_first : (way : Way) (next : Option ℕ) (own parent length : CellCount) (ranges : Block)
         → script b n block arm (cursor_at (Children way) 0 no_part next own parent length ranges)
-        ≡ kids_script way (ranges_of own parent length (part_of b ranges.at ranges.len)) own length (at b n next) ++ (nothing ∷ after_on arm (root_at b n) way)
+        ≡ kids_script way (ranges_of own parent length (part_of b ranges.at ranges.len)) own length (at b n next) ++ (None ∷ after_on arm (root_at b n) way)
     unfolding script rows_script
     before_first way next own parent length ranges = rw (reg_none own length (part_of b 0 0) (part_length b 0 0 (omega arith)))
 
     -- THE THEOREM: what is left on entering
-    pub enter_is : (way : Way) → script b n block arm (enter_at b n way) ≡ way_script (root_at b n) way ++ (nothing ∷ after_on arm (root_at b n) way)
+    pub enter_is : (way : Way) → script b n block arm (enter_at b n way) ≡ way_script (root_at b n) way ++ (None ∷ after_on arm (root_at b n) way)
     unfolding enter_at kids_script
     enter_is way = rw (← way_is way) (go (parent_at b n way))
       where
-        go : (f : Found) → script b n block arm (before way f) ≡ inside [] (kept_of way) f ++ (nothing ∷ after_on arm (root_at b n) way)
-        go (At q) = before_first way _ _ _ _ _
-        go Nothing = before_first way _ _ _ _ _
+        go : (f : Option ℕ) → script b n block arm (before way f) ≡ inside [] (kept_of way) f ++ (None ∷ after_on arm (root_at b n) way)
+        go (Some q) = before_first way _ _ _ _ _
+        go None = before_first way _ _ _ _ _
 
   -- what comes next is a node
   pub enter_stands : (way : Way) → Stands b n (enter_at b n way).next
   unfolding enter_at
   enter_stands way = go (parent_at b n way)
     where
-      go : (f : Found) → Stands b n (before way f).next
-      go (At q) = first_stands b n q
-      go Nothing = refl
+      go : (f : Option ℕ) → Stands b n (before way f).next
+      go (Some q) = first_stands b n q
+      go None = refl

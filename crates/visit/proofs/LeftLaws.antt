@@ -5,7 +5,6 @@ use Prim.Native.Nat.{ℕ, zero, suc, ◌+◌, ◌-◌, ◌/◌, ◌<◌}
 use native.Mathlib.Omega.{arith}
 use mathlib.Core.Bool.{Bool, true, false}
 use mathlib.Core.List.{List, [], ◌∷◌, ◌++◌}
-use mathlib.Core.Option.{Option, some, none as nothing}
 use lib.ListN.{length, drop}
 use lib.Seq.{drop-nil}
 use lib.Dec.{leb}
@@ -26,6 +25,7 @@ use Rattle.reservations.proofs.EntryLaws.{entry_past}
 use Rattle.claims.specs.declared.Way.{Way}
 use Rattle.claims.specs.Claims.{and_then, block_claims, entries, child_regions, claims_by, kid_claims}
 use Rattle.visit.specs.Script.{claims_in, rows_script, kids_script, block_script}
+use Rattle.std.specs.Prelude.{Option, Some, None}
 
 -- ── Rows of a value ──
 abbrev pub RowsLeft : List Region → ℕ → RegRow → Type 0
@@ -84,8 +84,8 @@ module _ (v : List ℕ) (i : ℕ) where
 
 -- ── Claims among the steps ──
 pub and_then_lem : (o : Option Claim) (k l : List Claim) → and_then o k ++ l ≡ and_then o (k ++ l)
-and_then_lem nothing k l = refl
-and_then_lem (some c) k l = refl
+and_then_lem None k l = refl
+and_then_lem (Some c) k l = refl
 
 pub claims_append : (k l : List (Option Claim)) → claims_in (k ++ l) ≡ claims_in k ++ claims_in l
 unfolding claims_in

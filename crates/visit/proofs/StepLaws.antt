@@ -6,7 +6,6 @@ use Prim.Native.Nat.{ℕ, zero, suc, ◌-◌, ◌/◌}
 use native.Mathlib.Omega.{arith}
 use mathlib.Core.Bool.{Bool, true, false, cond}
 use mathlib.Core.List.{List, [], ◌∷◌, ◌++◌, append_assoc, append-nil}
-use mathlib.Core.Option.{Option, some, none as nothing}
 use lib.ListN.{length}
 use lib.Dec.{eqb}
 use borrow.Author.Tests.{ne_eqb}
@@ -23,8 +22,6 @@ use Rattle.fdt.specs.Tree.{Nodes, none, node}
 use Rattle.reservations.specs.declared.Reservation.{Reservation}
 use Rattle.reservations.specs.declared.Reservation.TheVariants.{Entry, End as BlockEnd, Past}
 use Rattle.reservations.specs.Reservations.{entry_of, entries_of}
-use Rattle.nodes.specs.declared.Found.{Found}
-use Rattle.nodes.specs.declared.Found.TheVariants.{At, Nothing}
 use Rattle.nodes.specs.OnTree.{head_of, kids_of}
 use Rattle.reading.specs.Values.{value_of}
 use Rattle.subtree.specs.Names.{ranges_name, soc_name, reserved_memory_name}
@@ -45,6 +42,7 @@ use Rattle.visit.specs.Steps.{next_row, cursor_at, start_at, enter_at, yields, e
 use Rattle.visit.specs.Script.{claims_in, rows_script, kids_script, block_script, soc_script, way_script, controllers_on, console_on, soc_on, virt_on, devices_on, reserved_on, after_on, script, Follows}
 use Rattle.visit.proofs.LeftLaws.{RowsLeft, rows_left, EntriesLeft, entries_left, and_then_lem, claims_append, claims_block, claims_kids}
 use Rattle.visit.proofs.EnterLaws.{value_part, enter_is, enter_stands}
+use Rattle.std.specs.Prelude.{Option, Some, None}
 
 -- ── The first cursor ──
 module _ (t : Nodes) where
@@ -63,14 +61,14 @@ module _ (t : Nodes) where
   claims_soc = go (under_root soc_name t) (value_of ranges_name (props_of (under_root soc_name t)))
     where
       go : (s : Nodes) (v : Option (List ℕ)) → claims_in (soc_script t s v) ≡ soc_by t s v
-      go s nothing = refl
-      go s (some v) = claims_kids _ _ _ _ _
+      go s None = refl
+      go s (Some v) = claims_kids _ _ _ _ _
 
   claims_console : claims_in (console_on t) ≡ stdout_claims t ++ controller_claims t
   unfolding console_on controllers_on way_script stdout_claims controller_claims claims_in
   claims_console =
       ap (and_then (uart_claim (uart_of t)))
-      (claims_append (way_script t Controllers) (nothing ∷ []) ∙ append-nil _ ∙ claims_kids _ _ _ _ _)
+      (claims_append (way_script t Controllers) (None ∷ []) ∙ append-nil _ ∙ claims_kids _ _ _ _ _)
       ∙ sym (and_then_lem (uart_claim (uart_of t)) [] (controller_claims t))
 
   claims_devices : (arm : Bool) → claims_in (devices_on arm t) ≡ device_claims arm t
@@ -79,7 +77,7 @@ module _ (t : Nodes) where
     where
       go : (x : Bool) → claims_in (cond x (virt_on 0) (soc_on t)) ≡ cond x virt_claims (soc_claims t ++ (stdout_claims t ++ controller_claims t))
       go true = refl
-      go false = claims_append (way_script t Soc) (nothing ∷ console_on t) ∙ rw (claims_soc, claims_console)
+      go false = claims_append (way_script t Soc) (None ∷ console_on t) ∙ rw (claims_soc, claims_console)
 
 -- THE THEOREM: from the first cursor on the claims are the tree's
 pub script_start :
@@ -88,18 +86,18 @@ unfolding script reserved_on claims_in claims_of
 script_start b n block arm =
     let z : length block / 16 - 0 ≡ length block / 16 = omega arith in
     rw z
-    (claims_append (block_script (entries_of block)) (nothing ∷ reserved_on arm (root_at b n))
+    (claims_append (block_script (entries_of block)) (None ∷ reserved_on arm (root_at b n))
     ∙ rw (claims_block (entries_of block))
     (ap (λ (l : List Claim). block_claims (entries_of block) ++ l)
-    (claims_append (way_script (root_at b n) Reserve) (nothing ∷ devices_on arm (root_at b n))
+    (claims_append (way_script (root_at b n) Reserve) (None ∷ devices_on arm (root_at b n))
     ∙ rw (claims_reserved (root_at b n), claims_devices (root_at b n) arm))))
 
 -- ── A step ──
 -- the children in a row from one that is there
 kids_head :
     (way : Way) (tb : Table Range) (a c : CellCount) (q : ℕ) (t : Nodes)
-    → head_of t ≡ At q
-    → kids_script way tb a c t ≡ nothing ∷ (rows_script way tb (child_regions way a c (props_of t)) ++ kids_script way tb a c (rest_of t))
+    → head_of t ≡ Some q
+    → kids_script way tb a c t ≡ None ∷ (rows_script way tb (child_regions way a c (props_of t)) ++ kids_script way tb a c (rest_of t))
 unfolding kids_script
 kids_head way tb a c q none h = never (cc)
 kids_head way tb a c q (node p nm ps kids rest) h = refl
@@ -108,8 +106,8 @@ module _ (b n block : List ℕ) (arm : Bool) where
   -- a step that gives a claim or none
   follows_yield : (o : Option Claim) (c d : Cursor) → script b n block arm c ≡ o ∷ script b n block arm d → Stands b n d.next
       → Follows b n block arm c (yields o d)
-  follows_yield nothing c d e s = (e, s)
-  follows_yield (some x) c d e s = (x, refl, e, s)
+  follows_yield None c d e s = (e, s)
+  follows_yield (Some x) c d e s = (x, refl, e, s)
 
   -- past the children of a rule
   after_is : (way : Way) → script b n block arm (after_at b n arm way) ≡ after_on arm (root_at b n) way
@@ -132,7 +130,7 @@ module _ (b n block : List ℕ) (arm : Bool) where
   after_stands Soc = refl
   after_stands Controllers = refl
 
-  module _ (row : ℕ) (value : Block) (next : Found) (own parent length : CellCount) (ranges : Block) (stands : Stands b n next) where
+  module _ (row : ℕ) (value : Block) (next : Option ℕ) (own parent length : CellCount) (ranges : Block) (stands : Stands b n next) where
     abbrev here : Stage → Cursor
     here stage = cursor_at stage row value next own parent length ranges
 
@@ -158,19 +156,19 @@ module _ (b n block : List ℕ) (arm : Bool) where
 
     -- to the next child, or past the last one
     next_is :
-        (way : Way) (f : Found) → Stands b n f
-        → kids_script way table own length (at b n f) ++ (nothing ∷ after_on arm (root_at b n) way)
-        ≡ nothing ∷ script b n block arm (child_next b n arm way (here (Children way)) f)
+        (way : Way) (f : Option ℕ) → Stands b n f
+        → kids_script way table own length (at b n f) ++ (None ∷ after_on arm (root_at b n) way)
+        ≡ None ∷ script b n block arm (child_next b n arm way (here (Children way)) f)
     unfolding script kids_script
-    next_is way (At q) h =
+    next_is way (Some q) h =
         rw
         (kids_head way table own length q (node_at b n q) h, value_part b own parent length (child_value b n way own length q), child_regions_lem b n way own length q)
         (rw (← rest_at b n q, append_assoc))
-    next_is way Nothing h = rw (after_is way)
+    next_is way None h = rw (after_is way)
 
-    child_stands : (way : Way) (f : Found) → Stands b n (child_next b n arm way (here (Children way)) f).next
-    child_stands way (At q) = next_stands b n q
-    child_stands way Nothing = after_stands way
+    child_stands : (way : Way) (f : Option ℕ) → Stands b n (child_next b n arm way (here (Children way)) f).next
+    child_stands way (Some q) = next_stands b n q
+    child_stands way None = after_stands way
 
     rows_follow : (way : Way) (x : RegRow) → RowsLeft (entries (reg_of own length (part_of b value.at value.len))) row x
         → Follows b n block arm (here (Children way)) (row_step b n arm way (here (Children way)) x)

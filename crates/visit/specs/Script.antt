@@ -1,6 +1,5 @@
 -- What is left to claim from a cursor on: for each step to come, its claim, or nothing. On the tree.
-use Rattle.std.specs.Prelude.{◌≡◌, ℕ, ◌-◌, ◌/◌, List, [], ◌∷◌, ◌++◌, Bool, cond, length, drop, eqb}
-use Rattle.std.proofs.Math.Option.{Option, some, none as nothing}
+use Rattle.std.specs.Prelude.{◌≡◌, ℕ, ◌-◌, ◌/◌, List, [], ◌∷◌, ◌++◌, Bool, cond, length, drop, eqb, Option, Some, None}
 use Rattle.words.specs.Bytes.{part_of}
 use Rattle.entry.specs.declared.BootloaderMemoryKind.TheVariants.{Device}
 use Rattle.entry.specs.Kind.{number_of}
@@ -40,15 +39,15 @@ rows_script way t (r ∷ l) = claim_by way t r ∷ rows_script way t l
 
 unfoldable pub kids_script : Way → Table Range → CellCount → CellCount → Nodes → List (Option Claim)
 kids_script way t a c none = []
-kids_script way t a c (node q nm ps kids rest) = nothing ∷ (rows_script way t (child_regions way a c ps) ++ kids_script way t a c rest)
+kids_script way t a c (node q nm ps kids rest) = None ∷ (rows_script way t (child_regions way a c ps) ++ kids_script way t a c rest)
 
 unfoldable pub block_script : List Region → List (Option Claim)
 block_script [] = []
 block_script (r ∷ l) = block_claim r ∷ block_script l
 
 abbrev pub soc_script : Nodes → Nodes → Option (List ℕ) → List (Option Claim)
-soc_script t s nothing = []
-soc_script t s (some v) =
+soc_script t s None = []
+soc_script t s (Some v) =
     kids_script Soc (ranges_of (address_of (props_of s)) (address_of (props_of t)) (size_of (props_of s)) v) (address_of (props_of s)) (size_of (props_of s)) (kids_of s)
 
 -- the children of a rule, of the whole tree
@@ -62,25 +61,25 @@ way_script t Controllers = kids_script Controllers (rows []) (address_of (props_
 
 -- the stages from one on; each row of children is left by a step
 unfoldable pub controllers_on : Nodes → List (Option Claim)
-controllers_on t = way_script t Controllers ++ (nothing ∷ [])
+controllers_on t = way_script t Controllers ++ (None ∷ [])
 
 unfoldable pub console_on : Nodes → List (Option Claim)
 console_on t = uart_claim (uart_of t) ∷ controllers_on t
 
 unfoldable pub soc_on : Nodes → List (Option Claim)
-soc_on t = way_script t Soc ++ (nothing ∷ console_on t)
+soc_on t = way_script t Soc ++ (None ∷ console_on t)
 
 unfoldable pub virt_on : ℕ → List (Option Claim)
 virt_on row =
     cond (eqb row 0)
-    (some (claim 0x08000000 0x08000000 (number_of Device)) ∷ some (claim 0x10000000 0x30000000 (number_of Device)) ∷ [])
-    (some (claim 0x10000000 0x30000000 (number_of Device)) ∷ [])
+    (Some (claim 0x08000000 0x08000000 (number_of Device)) ∷ Some (claim 0x10000000 0x30000000 (number_of Device)) ∷ [])
+    (Some (claim 0x10000000 0x30000000 (number_of Device)) ∷ [])
 
 unfoldable pub devices_on : Bool → Nodes → List (Option Claim)
 devices_on arm t = cond (is_virt arm t) (virt_on 0) (soc_on t)
 
 unfoldable pub reserved_on : Bool → Nodes → List (Option Claim)
-reserved_on arm t = way_script t Reserve ++ (nothing ∷ devices_on arm t)
+reserved_on arm t = way_script t Reserve ++ (None ∷ devices_on arm t)
 
 -- what comes after the children of a rule
 unfoldable pub after_on : Bool → Nodes → Way → List (Option Claim)
@@ -90,12 +89,12 @@ after_on arm t Controllers = []
 
 module _ (b n block : List ℕ) (arm : Bool) where
   abbrev pub stage_script : Stage → Cursor → List (Option Claim)
-  stage_script Entries c = block_script (entries_from (length block / 16 - c.row) block c.row) ++ (nothing ∷ reserved_on arm (root_at b n))
+  stage_script Entries c = block_script (entries_from (length block / 16 - c.row) block c.row) ++ (None ∷ reserved_on arm (root_at b n))
   stage_script (Children way) c =
       rows_script way (ranges_of c.own c.parent c.length (part_of b c.ranges.at c.ranges.len))
       (drop c.row (entries (reg_of c.own c.length (part_of b c.value.at c.value.len))))
       ++ (kids_script way (ranges_of c.own c.parent c.length (part_of b c.ranges.at c.ranges.len)) c.own c.length (at b n c.next)
-      ++ (nothing ∷ after_on arm (root_at b n) way))
+      ++ (None ∷ after_on arm (root_at b n) way))
   stage_script Virt c = virt_on c.row
   stage_script Console c = console_on (root_at b n)
   stage_script Over c = []
@@ -105,6 +104,6 @@ module _ (b n block : List ℕ) (arm : Bool) where
 
   -- what a step does to what is left
   abbrev pub Follows : Cursor → Step → Type 0
-  Follows c (Claims x d) = (y : Claim) × (x ≡ claimed y) × (script c ≡ some y ∷ script d) × Stands b n d.next
-  Follows c (On d) = (script c ≡ nothing ∷ script d) × Stands b n d.next
+  Follows c (Claims x d) = (y : Claim) × (x ≡ claimed y) × (script c ≡ Some y ∷ script d) × Stands b n d.next
+  Follows c (On d) = (script c ≡ None ∷ script d) × Stands b n d.next
   Follows c End = script c ≡ []

@@ -1,7 +1,6 @@
 -- The claims of a tree one after the other, as the code takes them: a cursor, and a step from it. specs/Script.antt says what is left to
 -- claim from a cursor; StepLaws.script_start says that from the first one on these are the tree's claims.
-use Rattle.std.specs.Prelude.{ℕ, ◌+◌, List, [], ◌∷◌, Bool, cond, eqb}
-use Rattle.std.proofs.Math.Option.{Option, some, none as nothing}
+use Rattle.std.specs.Prelude.{ℕ, ◌+◌, List, [], ◌∷◌, Bool, cond, eqb, Option, Some, None}
 use Rattle.words.specs.Bytes.{part_of}
 use Rattle.entry.specs.declared.BootloaderMemoryKind.TheVariants.{Device}
 use Rattle.entry.specs.Kind.{number_of}
@@ -16,10 +15,6 @@ use Rattle.fdt.specs.declared.Block.{Block}
 use Rattle.reservations.specs.declared.Reservation.{Reservation}
 use Rattle.reservations.specs.declared.Reservation.TheVariants.{Entry, End as BlockEnd, Past}
 use Rattle.reservations.specs.Reservations.{entry_of}
-use Rattle.nodes.specs.declared.Found.{Found}
-use Rattle.nodes.specs.declared.Found.TheVariants.{At, Nothing}
-use Rattle.nodes.specs.declared.Value.{Value}
-use Rattle.nodes.specs.declared.Value.TheVariants.{Here, Missing}
 use Rattle.nodes.specs.Nav.{inside, first_at, next_at, prop_at, child_at}
 use Rattle.nodes.specs.Path.{path_at}
 use Rattle.nodes.specs.Cells.{address_cells, size_cells, count_at}
@@ -42,13 +37,13 @@ use Rattle.visit.specs.declared.Step.TheVariants.{Claims, On, End}
 abbrev pub no_part : Block
 no_part = record { at = 0; len = 0 }
 
-abbrev pub cursor_at : Stage → ℕ → Block → Found → CellCount → CellCount → CellCount → Block → Cursor
+abbrev pub cursor_at : Stage → ℕ → Block → Option ℕ → CellCount → CellCount → CellCount → Block → Cursor
 cursor_at stage row value next own parent length ranges =
     record { stage = stage; row = row; value = value; next = next; own = own; parent = parent; length = length; ranges = ranges }
 
 -- at the start of a stage that has no children
 abbrev pub start_at : Stage → Cursor
-start_at stage = cursor_at stage 0 no_part Nothing Absent Absent Absent no_part
+start_at stage = cursor_at stage 0 no_part None Absent Absent Absent no_part
 
 abbrev pub with_row : Cursor → ℕ → Cursor
 with_row c row = cursor_at c.stage row c.value c.next c.own c.parent c.length c.ranges
@@ -56,9 +51,9 @@ with_row c row = cursor_at c.stage row c.value c.next c.own c.parent c.length c.
 abbrev pub next_row : Cursor → Cursor
 next_row c = with_row c (c.row + 1)
 
-abbrev pub part_by : Value → Block
-part_by (Here at len) = record { at = at; len = len }
-part_by Missing = no_part
+abbrev pub part_by : Option Block → Block
+part_by (Some v) = v
+part_by None = no_part
 
 -- ── Into a row of children ──
 
@@ -66,18 +61,18 @@ part_by Missing = no_part
 abbrev pub slash : List ℕ
 slash = 47 ∷ []
 
-abbrev pub where_here : Value → ℕ → Found
-where_here (Here at len) q = At q
-where_here Missing q = Nothing
+abbrev pub where_here : Option Block → ℕ → Option ℕ
+where_here (Some v) q = Some q
+where_here None q = None
 
 -- the node whose children claim by a rule, where they do
-unfoldable pub parent_at : List ℕ → List ℕ → Way → Found
+unfoldable pub parent_at : List ℕ → List ℕ → Way → Option ℕ
 parent_at b n Reserve =
-    inside Nothing
-    (λ r. inside Nothing (λ q. cond (children_count (props_of (node_at b n r)) (props_of (node_at b n q))) (At q) Nothing) (child_at b n r reserved_memory_name))
+    inside None
+    (λ r. inside None (λ q. cond (children_count (props_of (node_at b n r)) (props_of (node_at b n q))) (Some q) None) (child_at b n r reserved_memory_name))
     (path_at b n slash)
 parent_at b n Soc =
-    inside Nothing (λ r. inside Nothing (λ q. where_here (prop_at b n q ranges_name) q) (child_at b n r soc_name)) (path_at b n slash)
+    inside None (λ r. inside None (λ q. where_here (prop_at b n q ranges_name) q) (child_at b n r soc_name)) (path_at b n slash)
 parent_at b n Controllers = path_at b n slash
 
 -- the address cells of the root
@@ -85,7 +80,7 @@ unfoldable pub root_cells : List ℕ → List ℕ → CellCount
 root_cells b n = inside Absent (λ r. count_at b n r address_cells) (path_at b n slash)
 
 -- `ranges` is read for /soc's children alone
-abbrev pub ranges_by : Way → Value → Block
+abbrev pub ranges_by : Way → Option Block → Block
 ranges_by Reserve v = no_part
 ranges_by Soc v = part_by v
 ranges_by Controllers v = no_part
@@ -103,8 +98,8 @@ abbrev pub claimed : Claim → Claimed
 claimed c = record { base = c.base; size = c.size; kind = c.kind }
 
 abbrev pub yields : Option Claim → Cursor → Step
-yields nothing c = On c
-yields (some x) c = Claims (claimed x) c
+yields None c = On c
+yields (Some x) c = Claims (claimed x) c
 
 abbrev pub entry_step : List ℕ → List ℕ → Reservation → Cursor → Step
 entry_step b n (Entry r) c = yields (block_claim r) (next_row c)
@@ -119,10 +114,10 @@ module _ (b n : List ℕ) (arm : Bool) where
   after_at Controllers = start_at Over
 
   -- to the next child, or on
-  abbrev pub child_next : Way → Cursor → Found → Cursor
-  child_next way c (At q) =
+  abbrev pub child_next : Way → Cursor → Option ℕ → Cursor
+  child_next way c (Some q) =
       cursor_at (Children way) 0 (part_by (child_value b n way c.own c.length q)) (next_at b n q) c.own c.parent c.length c.ranges
-  child_next way c Nothing = after_at way
+  child_next way c None = after_at way
 
   abbrev pub row_step : Way → Cursor → RegRow → Step
   row_step way c (RegAt r) =

@@ -17,9 +17,7 @@ ghost use Rattle.visit.specs.declared.Stage.TheVariants.{Entries};
 use cells::{CellCount, RegRow, Region};
 use claims::Way;
 use fdt::Block;
-use nodes::{Found, Value};
 use reservations::Reservation;
-use stdout::Uart;
 use windows::Window;
 
 // What is claimed of memory.
@@ -47,7 +45,7 @@ pub struct Cursor {
     pub stage: Stage,
     pub row: usize,
     pub value: Block,
-    pub next: Found,
+    pub next: Option<usize>,
     pub own: CellCount,
     pub parent: CellCount,
     pub length: CellCount,
@@ -70,7 +68,7 @@ fn start_at(stage: Stage) -> Cursor
         stage,
         row: 0,
         value: Block { at: 0, len: 0 },
-        next: Found::Nothing,
+        next: None,
         own: CellCount::Absent,
         parent: CellCount::Absent,
         length: CellCount::Absent,
@@ -85,49 +83,36 @@ pub fn first_claim() -> Cursor
     start_at(Stage::Entries)
 }
 
-fn part_by(value: Value) -> Block
+fn part_by(value: Option<Block>) -> Block
     ensures { result ≡ part_by value }
 {
-    match value {
-        Value::Here(at, len) => Block { at, len },
-        Value::Missing => Block { at: 0, len: 0 },
-    }
+    value.unwrap_or(Block { at: 0, len: 0 })
 }
 
 // /reserved-memory, where its children count.
-fn reserved_parent<'a>(structure: &'a [u8], strings: &'a [u8]) -> Found
+fn reserved_parent<'a>(structure: &'a [u8], strings: &'a [u8]) -> Option<usize>
     ensures { result ≡ parent_at structure.now strings.now Reserve }
 {
-    let Found::At(root) = nodes::path_offset(structure, strings, b"/") else {
-        return Found::Nothing;
-    };
-    let Found::At(node) = nodes::subnode(structure, strings, root, b"reserved-memory") else {
-        return Found::Nothing;
-    };
+    let root = nodes::path_offset(structure, strings, b"/")?;
+    let node = nodes::subnode(structure, strings, root, b"reserved-memory")?;
     if reserved::children_count(structure, strings, root, node) {
-        return Found::At(node);
+        return Some(node);
     }
-    Found::Nothing
+    None
 }
 
 // /soc, where it has `ranges`.
-fn soc_parent<'a>(structure: &'a [u8], strings: &'a [u8]) -> Found
+fn soc_parent<'a>(structure: &'a [u8], strings: &'a [u8]) -> Option<usize>
     ensures { result ≡ parent_at structure.now strings.now Soc }
 {
-    let Found::At(root) = nodes::path_offset(structure, strings, b"/") else {
-        return Found::Nothing;
-    };
-    let Found::At(node) = nodes::subnode(structure, strings, root, b"soc") else {
-        return Found::Nothing;
-    };
-    match nodes::getprop(structure, strings, node, b"ranges") {
-        Value::Here(_, _) => Found::At(node),
-        Value::Missing => Found::Nothing,
-    }
+    let root = nodes::path_offset(structure, strings, b"/")?;
+    let node = nodes::subnode(structure, strings, root, b"soc")?;
+    nodes::getprop(structure, strings, node, b"ranges")?;
+    Some(node)
 }
 
 // The node whose children claim by a rule, where they do.
-fn parent_of<'a>(structure: &'a [u8], strings: &'a [u8], way: Way) -> Found
+fn parent_of<'a>(structure: &'a [u8], strings: &'a [u8], way: Way) -> Option<usize>
     ensures { result ≡ parent_at structure.now strings.now way }
 {
     match way {
@@ -141,8 +126,8 @@ fn root_cells<'a>(structure: &'a [u8], strings: &'a [u8]) -> CellCount
     ensures { result ≡ root_cells structure.now strings.now }
 {
     match nodes::path_offset(structure, strings, b"/") {
-        Found::At(root) => nodes::address_cells(structure, strings, root),
-        Found::Nothing => CellCount::Absent,
+        Some(root) => nodes::address_cells(structure, strings, root),
+        None => CellCount::Absent,
     }
 }
 
@@ -161,7 +146,7 @@ fn ranges_of<'a>(structure: &'a [u8], strings: &'a [u8], way: Way, node: usize) 
 fn enter<'a>(structure: &'a [u8], strings: &'a [u8], way: Way) -> Cursor
     ensures { result ≡ enter_at structure.now strings.now way }
 {
-    let Found::At(node) = parent_of(structure, strings, way) else {
+    let Some(node) = parent_of(structure, strings, way) else {
         return start_at(Stage::Children(way));
     };
     Cursor {
@@ -255,7 +240,7 @@ fn next_child<'a>(
     ensures { result ≡ child_next structure.now strings.now arm way cursor cursor.next }
 {
     let next = cursor.next;
-    let Found::At(child) = next else {
+    let Some(child) = next else {
         return after(structure, strings, arm, way);
     };
     let own = cursor.own;
@@ -358,7 +343,7 @@ fn console_step<'a>(structure: &'a [u8], strings: &'a [u8]) -> Step
 {
     let next = enter(structure, strings, Way::Controllers);
     match stdout::diag_uart_range(structure, strings) {
-        Uart::Range(region) => Step::Claims(
+        Some(region) => Step::Claims(
             Claimed {
                 base: region.address,
                 size: region.size,
@@ -366,7 +351,7 @@ fn console_step<'a>(structure: &'a [u8], strings: &'a [u8]) -> Step
             },
             next,
         ),
-        Uart::NoUart => Step::On(next),
+        None => Step::On(next),
     }
 }
 

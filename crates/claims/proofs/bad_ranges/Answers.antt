@@ -7,25 +7,25 @@ pub returns-in_default : goal.returns-in_default
 returns-in_default c = no_soc _ _ _ _ c.subnode.ensures c.in_default.is
 
 pub returns-in_default-getprop : goal.returns-in_default-getprop
-returns-in_default-getprop c = no_ranges _ _ _ _ c.subnode.ensures _ c.in-At.is _ c.getprop.ensures c.in_default-getprop.is
+returns-in_default-getprop c = no_ranges _ _ _ _ c.subnode.ensures _ c.in-Some.is _ c.getprop.ensures c.in_default-getprop.is
 
 pub some_child-requires : goal.some_child-requires
 some_child-requires c = first_found _ _ _ _ c.first_subnode-first.ensures
 
 pub returns-in-NoRange : goal.returns-in-NoRange
 returns-in-NoRange c =
-    met _ _ _ _ c.subnode.ensures _ c.in-At.is _ c.getprop.ensures _ _ c.in-Here.is _ c.part.ensures _ _ _ c.address_cells-own.ensures
+    met _ _ _ _ c.subnode.ensures _ c.in-Some.is _ c.getprop.ensures _ c.in-Some-getprop.is _ c.part.ensures _ _ _ c.address_cells-own.ensures
     c.address_cells-parent.ensures c.size_cells-length.ensures _ c.range_row.ensures
     c.in-NoRange.is _ c.first_subnode-first.ensures _ c.some_child.ensures
 
 pub returns-in-PastRange : goal.returns-in-PastRange
 returns-in-PastRange c =
-    readable _ _ _ _ c.subnode.ensures _ c.in-At.is _ c.getprop.ensures _ _ c.in-Here.is _ c.part.ensures _ _ _ c.address_cells-own.ensures
+    readable _ _ _ _ c.subnode.ensures _ c.in-Some.is _ c.getprop.ensures _ c.in-Some-getprop.is _ c.part.ensures _ _ _ c.address_cells-own.ensures
     c.address_cells-parent.ensures c.size_cells-length.ensures _ c.range_row.ensures
     _ c.in-PastRange.is refl
 
 pub returns-in-RangeAt : goal.returns-in-RangeAt
 returns-in-RangeAt c =
-    readable _ _ _ _ c.subnode.ensures _ c.in-At.is _ c.getprop.ensures _ _ c.in-Here.is _ c.part.ensures _ _ _ c.address_cells-own.ensures
+    readable _ _ _ _ c.subnode.ensures _ c.in-Some.is _ c.getprop.ensures _ c.in-Some-getprop.is _ c.part.ensures _ _ _ c.address_cells-own.ensures
     c.address_cells-parent.ensures c.size_cells-length.ensures _ c.range_row.ensures
     _ c.in-RangeAt.is refl

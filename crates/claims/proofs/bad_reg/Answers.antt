@@ -7,12 +7,12 @@ returns-in_default c = no_reserved _ _ _ _ c.subnode.ensures c.in_default.is
 
 pub returns-then-not-children_count : goal.returns-then-not-children_count
 returns-then-not-children_count c =
-    uncounted _ _ _ _ c.subnode.ensures _ c.in-At.is _ c.children_count.ensures (c.if-not-children_count.true)
+    uncounted _ _ _ _ c.subnode.ensures _ c.in-Some.is _ c.children_count.ensures (c.if-not-children_count.true)
 
 pub some_child-requires : goal.some_child-requires
 some_child-requires c = first_found _ _ _ _ c.first_subnode-first.ensures
 
 pub returns : goal.returns
 returns c =
-    counted _ _ _ _ c.subnode.ensures _ c.in-At.is _ c.children_count.ensures (c.if-not-children_count.false)
+    counted _ _ _ _ c.subnode.ensures _ c.in-Some.is _ c.children_count.ensures (c.if-not-children_count.false)
     _ c.first_subnode-first.ensures _ _ c.address_cells-address.ensures c.size_cells-size.ensures _ c.some_child.ensures

@@ -1,4 +1,5 @@
 -- `child_value` goes by the rule of the parent; of the root's children `interrupt-controller` is asked first. Assumes nothing.
+use mathlib.Core.Path.{◌∙◌}
 use Rattle.claims.specs.Values.{child_value}
 use Rattle.claims.proofs.ClaimLaws.{controller, no_controller}
 use Rattle.claims.proofs.child_value.Goals as goal
@@ -10,10 +11,10 @@ pub returns-in-Soc : goal.returns-in-Soc
 unfolding child_value
 returns-in-Soc c = rw c.in-Soc.is c.getprop.ensures
 
-pub returns-in-Here : goal.returns-in-Here
-returns-in-Here c =
-    controller _ _ _ _ c.getprop-in-Controllers.ensures _ c.in-Controllers.is _ _ _ _ c.in-Here.is _ c.getprop-in-Here.ensures
+pub returns-in_ok-getprop-in-Controllers : goal.returns-in_ok-getprop-in-Controllers
+returns-in_ok-getprop-in-Controllers c =
+    controller _ _ _ _ c.getprop-in-Controllers.ensures _ c.in-Controllers.is _ _ _ c.in_ok-getprop-in-Controllers.was _ c.getprop-in-Controllers-2.ensures
 
-pub returns-in-Missing : goal.returns-in-Missing
-returns-in-Missing c =
-    no_controller _ _ _ _ c.getprop-in-Controllers.ensures _ c.in-Controllers.is _ _ c.in-Missing.is
+pub returns-in_err-getprop-in-Controllers : goal.returns-in_err-getprop-in-Controllers
+returns-in_err-getprop-in-Controllers c =
+    c.from_residual.ensures ∙ no_controller _ _ _ _ c.getprop-in-Controllers.ensures _ c.in-Controllers.is _ _ c.in_err-getprop-in-Controllers.was

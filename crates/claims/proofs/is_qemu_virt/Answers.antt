@@ -9,10 +9,10 @@ returns-in_default c =
 
 pub returns-in_default-string_of : goal.returns-in_default-string_of
 returns-in_default-string_of c =
-    virt_nameless _ _ _ c.path_offset.ensures _ (search rules) _ c.in-At.is _ c.string_of.ensures
+    virt_nameless _ _ _ c.path_offset.ensures _ (search rules) _ c.in-Some.is _ c.string_of.ensures
     c.in_default-string_of.is
 
 pub returns : goal.returns
 returns c =
-    virt_by _ _ _ c.path_offset.ensures _ (search rules) _ c.in-At.is _ c.string_of.ensures
-    _ _ c.in-Here.is _ c.part.ensures _ c.holds.ensures
+    virt_by _ _ _ c.path_offset.ensures _ (search rules) _ c.in-Some.is _ c.string_of.ensures
+    _ c.in-Some-string_of.is _ c.part.ensures _ c.holds.ensures

@@ -7,13 +7,13 @@ unfolding child_value
 returns-then-not-reserved_memory_node_is_available c =
     rw (← c.reserved_memory_node_is_available.ensures, c.if-not-reserved_memory_node_is_available.true)
 
-pub returns-in-Here : goal.returns-in-Here
+pub returns-in-Some : goal.returns-in-Some
 unfolding child_value
-returns-in-Here c =
-    rw (← c.reserved_memory_node_is_available.ensures, c.if-not-reserved_memory_node_is_available.false, ← c.getprop.ensures, c.in-Here.is)
+returns-in-Some c =
+    rw (← c.reserved_memory_node_is_available.ensures, c.if-not-reserved_memory_node_is_available.false, ← c.getprop.ensures, c.in-Some.is)
 
-pub returns-in-Missing : goal.returns-in-Missing
+pub returns-in-None : goal.returns-in-None
 unfolding child_value
-returns-in-Missing c =
-    rw (← c.reserved_memory_node_is_available.ensures, c.if-not-reserved_memory_node_is_available.false, ← c.getprop.ensures, c.in-Missing.is)
+returns-in-None c =
+    rw (← c.reserved_memory_node_is_available.ensures, c.if-not-reserved_memory_node_is_available.false, ← c.getprop.ensures, c.in-None.is)
     c.dynamic_value.ensures

@@ -12,14 +12,14 @@ returns-then-not-stated_alike-2 c =
     sizes_differ _ _ _ (alike _ _ _ _ _ _ _ _ c.address_cells-address.ensures c.address_cells.ensures c.stated_alike.ensures) c.if-not-stated_alike.false _
     (alike _ _ _ _ _ _ _ _ c.size_cells-size.ensures c.size_cells.ensures c.stated_alike-2.ensures) c.if-not-stated_alike-2.true
 
-pub returns-in-Here : goal.returns-in-Here
-returns-in-Here c =
+pub returns-in-Some : goal.returns-in-Some
+returns-in-Some c =
     by_ranges _ _ _ (alike _ _ _ _ _ _ _ _ c.address_cells-address.ensures c.address_cells.ensures c.stated_alike.ensures) c.if-not-stated_alike.false _
     (alike _ _ _ _ _ _ _ _ c.size_cells-size.ensures c.size_cells.ensures c.stated_alike-2.ensures) c.if-not-stated_alike-2.false _
-    (empty_here _ _ _ _ _ c.getprop.ensures _ _ c.in-Here.is)
+    (empty_here _ _ _ _ _ c.getprop.ensures _ c.in-Some.is)
 
-pub returns-in-Missing : goal.returns-in-Missing
-returns-in-Missing c =
+pub returns-in-None : goal.returns-in-None
+returns-in-None c =
     by_ranges _ _ _ (alike _ _ _ _ _ _ _ _ c.address_cells-address.ensures c.address_cells.ensures c.stated_alike.ensures) c.if-not-stated_alike.false _
     (alike _ _ _ _ _ _ _ _ c.size_cells-size.ensures c.size_cells.ensures c.stated_alike-2.ensures) c.if-not-stated_alike-2.false _
-    (empty_missing _ _ _ _ _ c.getprop.ensures c.in-Missing.is)
+    (empty_missing _ _ _ _ _ c.getprop.ensures c.in-None.is)

@@ -2,9 +2,9 @@
 use Rattle.reserved.proofs.ChildrenLaws.{status_here, status_missing}
 use Rattle.reserved.proofs.reserved_memory_node_is_available.Goals as goal
 
-pub returns-in-Here : goal.returns-in-Here
-returns-in-Here c =
-    status_here _ _ _ _ c.getprop.ensures _ _ _ _ c.in-Here.is c.part.ensures c.same.ensures
+pub returns-in-Some : goal.returns-in-Some
+returns-in-Some c =
+    status_here _ _ _ _ c.getprop.ensures _ _ _ c.in-Some.is c.part.ensures c.same.ensures
 
-pub returns-in-Missing : goal.returns-in-Missing
-returns-in-Missing c = status_missing _ _ _ _ c.getprop.ensures c.in-Missing.is
+pub returns-in-None : goal.returns-in-None
+returns-in-None c = status_missing _ _ _ _ c.getprop.ensures c.in-None.is

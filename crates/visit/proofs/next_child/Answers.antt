@@ -5,4 +5,4 @@ pub returns-in_default : goal.returns-in_default
 returns-in_default c = rw c.in_default.is c.after.ensures
 
 pub returns : goal.returns
-returns c = rw (c.in-At.is, ← c.next_subnode.ensures, ← c.child_value.ensures, ← c.part_by.ensures)
+returns c = rw (c.in-Some.is, ← c.next_subnode.ensures, ← c.child_value.ensures, ← c.part_by.ensures)

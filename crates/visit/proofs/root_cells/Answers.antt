@@ -2,10 +2,10 @@
 use Rattle.visit.specs.Steps.{root_cells}
 use Rattle.visit.proofs.root_cells.Goals as goal
 
-pub returns-in-At : goal.returns-in-At
+pub returns-in-Some : goal.returns-in-Some
 unfolding root_cells
-returns-in-At c = rw (← c.path_offset.ensures, c.in-At.is) c.address_cells.ensures
+returns-in-Some c = rw (← c.path_offset.ensures, c.in-Some.is) c.address_cells.ensures
 
-pub returns-in-Nothing : goal.returns-in-Nothing
+pub returns-in-None : goal.returns-in-None
 unfolding root_cells
-returns-in-Nothing c = rw (← c.path_offset.ensures, c.in-Nothing.is)
+returns-in-None c = rw (← c.path_offset.ensures, c.in-None.is)

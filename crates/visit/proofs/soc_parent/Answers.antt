@@ -1,21 +1,23 @@
 -- `visit::soc_parent` meets its contract: each step that finds nothing ends the search. Assumes nothing.
+use mathlib.Core.Path.{◌∙◌}
 use Rattle.claims.specs.declared.Way.TheVariants.{Soc}
 use Rattle.visit.proofs.CodeLaws.{rootless, soc_is}
 use Rattle.visit.proofs.soc_parent.Goals as goal
 
-pub returns-in_default : goal.returns-in_default
-returns-in_default c = rootless _ _ _ c.path_offset.ensures c.in_default.is Soc
+pub returns-in_err-root : goal.returns-in_err-root
+returns-in_err-root c = c.from_residual.ensures ∙ rootless _ _ _ c.path_offset.ensures c.in_err-root.was Soc
 
-pub returns-in_default-subnode : goal.returns-in_default-subnode
-returns-in_default-subnode c =
-    soc_is _ _ _ c.path_offset.ensures _ c.in-At.is _ _ c.in_default-subnode.is c.subnode.ensures
+pub returns-in_err-node : goal.returns-in_err-node
+returns-in_err-node c =
+    c.from_residual-in_err-node.ensures ∙ soc_is _ _ _ c.path_offset.ensures _ c.in_ok-root.was _ _ c.in_err-node.was c.subnode.ensures
 
-pub returns-in-Here : goal.returns-in-Here
-returns-in-Here c =
-    rw (← c.getprop.ensures, c.in-Here.is) at
-    (soc_is _ _ _ c.path_offset.ensures _ c.in-At.is _ _ c.in-At-subnode.is c.subnode.ensures)
+pub returns : goal.returns
+returns c =
+    rw (← c.getprop.ensures, c.in_ok-getprop.was) at
+    (soc_is _ _ _ c.path_offset.ensures _ c.in_ok-root.was _ _ c.in_ok-node.was c.subnode.ensures)
 
-pub returns-in-Missing : goal.returns-in-Missing
-returns-in-Missing c =
-    rw (← c.getprop.ensures, c.in-Missing.is) at
-    (soc_is _ _ _ c.path_offset.ensures _ c.in-At.is _ _ c.in-At-subnode.is c.subnode.ensures)
+pub returns-in_err-getprop : goal.returns-in_err-getprop
+returns-in_err-getprop c =
+    c.from_residual-in_err-getprop.ensures ∙
+    rw (← c.getprop.ensures, c.in_err-getprop.was) at
+    (soc_is _ _ _ c.path_offset.ensures _ c.in_ok-root.was _ _ c.in_ok-node.was c.subnode.ensures)
