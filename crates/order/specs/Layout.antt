@@ -87,9 +87,12 @@ order_in s =
     }
 
 -- "Numbers a caller gets back"
+abbrev pub order_fault_number : OrderFault → ℕ
+order_fault_number BadOrder = 9
+
 abbrev pub order_number : Result Order OrderFault → ℕ
-order_number (Ok o) = 0
-order_number (Err BadOrder) = 9
+order_number (Ok _) = 0
+order_number (Err f) = order_fault_number f
 
 -- 9: "order file breaks its layout, or is longer than 65,536"
 unfoldable pub order_of : List ℕ → Result Order OrderFault
