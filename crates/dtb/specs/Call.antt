@@ -1,5 +1,6 @@
 -- The tree's call: document 01, "The tree is judged before its first claim is registered. A refused .. tree .. gives back the map as at its
 -- call and writes nothing."
+use Rattle.numbers.specs.Number.{number_by}
 use Rattle.std.specs.Prelude.{ℕ, List, Bool, cond, Option, Some, None, Result, Ok, Err}
 use Rattle.memory.specs.declared.MemoryMap.{MemoryMap}
 use Rattle.memory.specs.declared.Registered.{Registered}
@@ -29,8 +30,7 @@ tree_refusal_number UnreadableRanges = 8
 tree_refusal_number MapFull = 2
 
 abbrev pub tree_number : Result Unit TreeRefusal → ℕ
-tree_number (Ok _) = 0
-tree_number (Err r) = tree_refusal_number r
+tree_number = number_by tree_refusal_number
 
 -- the refusal that a fault of the tree's form is, and that a fault in its values is
 abbrev pub of_fault : TreeFault → TreeRefusal
