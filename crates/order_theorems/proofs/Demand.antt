@@ -30,8 +30,7 @@ use Rattle.page_count.proofs.Claims.{FreeThere, free_at_reads}
 use Rattle.page_count.proofs.PageCount.{free_counted}
 use Rattle.order.specs.Layout.{order_in}
 use Rattle.startup.specs.declared.Refusal.TheVariants.{TooManyAreas}
-use Rattle.startup.specs.declared.Report.TheVariants.{Done}
-use Rattle.startup.specs.Report.{report_of, slots_after}
+use Rattle.startup.specs.Report.{report_of, slots_after, reported}
 use Rattle.order_theorems.specs.Rows.{file_claims, file_areas}
 use Rattle.order_theorems.proofs.Rows.{done_exactly, done_writes, done_accepted}
 
@@ -80,7 +79,7 @@ sheets_alike p low high low' high' cs ds g a b limits e =
     (ap (usable_in p) (any_order p low high low' high' cs ds g a b limits e))
 
 -- ── An order file ──
-module _ (p : ℕ) (g : Page p) (s l : List ℕ) (n : ℕ) (sheet : PageSheet) (done : report_of p s l ≡ Done n sheet) where
+module _ (p : ℕ) (g : Page p) (s l : List ℕ) (n : ℕ) (sheet : PageSheet) (done : report_of p s l ≡ reported n sheet) where
   accepted : Accepted p (file_claims s)
   accepted = done_accepted p s l n sheet done
 
@@ -122,7 +121,7 @@ module _ (p : ℕ) (g : Page p) (s l : List ℕ) (n : ℕ) (sheet : PageSheet) (
 
 -- demand 3, "the same bytes each time": also of two files whose sources deal them otherwise, and with them count and page sheet. The limits
 -- are the same where they round to the same
-pub files_alike : (p : ℕ) → Page p → (s t l : List ℕ) (n k : ℕ) (ss st : PageSheet) → report_of p s l ≡ Done n ss → report_of p t l ≡ Done k st
+pub files_alike : (p : ℕ) → Page p → (s t l : List ℕ) (n k : ℕ) (ss st : PageSheet) → report_of p s l ≡ reported n ss → report_of p t l ≡ reported k st
     → SameLimits p (order_in s).low (order_in s).high (order_in t).low (order_in t).high → SameClaims (file_claims s) (file_claims t)
     → (slots_after p s l ≡ slots_after p t l) × (report_of p s l ≡ report_of p t l)
 files_alike p g s t l n k ss st x y limits e =
@@ -138,5 +137,5 @@ files_alike p g s t l n k ss st x y limits e =
     ∙ sym b.2 in
     let counts : n ≡ k = a.1 ∙ ap length areas ∙ sym b.1 in (
       table p g s l n ss x ∙ ap (λ (is : List Interval). table_of is l) areas ∙ sym (table p g t l k st y),
-      x ∙ ap₂ Done counts sheets ∙ sym y,
+      x ∙ ap₂ reported counts sheets ∙ sym y,
     )

@@ -1,6 +1,8 @@
 -- Demand 3 over an order file and the late claims behind it, as the program `late` makes them, up to the first refusal: request L3 of
 -- document 02. Assumes nothing.
-use Rattle.std.specs.Prelude.{Option, ℕ, Ok}
+use Rattle.startup.specs.declared.Refusal.{Refusal}
+use Rattle.startup.specs.declared.Summary.{Summary}
+use Rattle.std.specs.Prelude.{Option, ℕ, Ok, Result, Err}
 use mathlib.Core.Path.{◌≡◌, refl, ap, sym, ◌∙◌}
 use mathlib.Core.Bool.{Bool, true, false}
 use mathlib.Core.List.{List, [], ◌∷◌, ◌++◌, append-nil, append_assoc}
@@ -15,9 +17,7 @@ use Rattle.demand3.specs.Slots.{number_slot, SlotsRight}
 use Rattle.sheet.specs.declared.PageSheet.{PageSheet}
 use Rattle.order.specs.Layout.{good_order, order_in, order_of}
 use Rattle.startup.specs.declared.Refusal.TheVariants.{BadOrder}
-use Rattle.startup.specs.declared.Report.{Report}
-use Rattle.startup.specs.declared.Report.TheVariants.{Done, Refused}
-use Rattle.startup.specs.Report.{report_of, slots_after}
+use Rattle.startup.specs.Report.{report_of, slots_after, reported}
 use Rattle.startup.specs.Start.{kept_map, file_map, map_left}
 use Rattle.late_claim.specs.Late.{After, late_of}
 use Rattle.late_run.specs.Run.{Run, run, stopped, late_all}
@@ -64,16 +64,16 @@ run_dealt {p} {low} {high} {cs} {m} {n} {l} h (d ∷ ds) i r e =
         (record { index = omega arith; dealt = rw (z, append-nil cs) h })
 
 -- ── Behind an order file ──
-module _ (p : ℕ) (g : Page p) (s l : List ℕ) (n : ℕ) (sheet : PageSheet) (done : report_of p s l ≡ Done n sheet) where
+module _ (p : ℕ) (g : Page p) (s l : List ℕ) (n : ℕ) (sheet : PageSheet) (done : report_of p s l ≡ reported n sheet) where
   -- the map that the build leaves is that of the file's registrations
   left_map : map_left p s l ≡ map_after p (file_claims s)
   unfolding map_left order_of
-  left_map = ap (λ (r : Report). kept_map r (file_map p s (order_of s))) done ∙ go (good_order s) refl
+  left_map = ap (λ (r : Result Summary Refusal). kept_map r (file_map p s (order_of s))) done ∙ go (good_order s) refl
     where
       go : (t : Bool) → good_order s ≡ t → file_map p s (order_of s) ≡ map_after p (file_claims s)
       go true e = rw e
       go false e =
-          let bad : report_of p s l ≡ Refused BadOrder = unfold report_of in rw e in
+          let bad : report_of p s l ≡ Err BadOrder = unfold report_of in rw e in
           let z : ◌≡◌ {A = ℕ} 0 1 = cc in absurd (omega arith)
 
   pub file_dealt : Dealt p (order_in s).low (order_in s).high (file_claims s) (map_left p s l) n (slots_after p s l)
@@ -90,7 +90,7 @@ module _ (p : ℕ) (g : Page p) (s l : List ℕ) (n : ℕ) (sheet : PageSheet) (
 
     -- THEOREM, "a build afresh with the claim included": an order file whose sources register the same, the late claims among them, has the
     -- same used slots, in whatever slots it is built
-    pub late_file_afresh : (t k : List ℕ) (n' : ℕ) (sheet' : PageSheet) → report_of p t k ≡ Done n' sheet'
+    pub late_file_afresh : (t k : List ℕ) (n' : ℕ) (sheet' : PageSheet) → report_of p t k ≡ reported n' sheet'
         → SameLimits p (order_in s).low (order_in s).high (order_in t).low (order_in t).high
         → SameClaims (file_claims s ++ take r.index ds) (file_claims t)
         → (r.count ≡ n') × (take (r.count + r.count) r.table ≡ take (n' + n') (slots_after p t k))

@@ -34,8 +34,7 @@ use Rattle.page_count.specs.Pages.{count_to, free_at, taken_at}
 use Rattle.page_count.proofs.Intervals.{listed, listed_reads, cut_listed, cuts_reads, list_counted, cuts_counted}
 use Rattle.page_count.proofs.PageCount.{free_counted, usable_and_taken}
 use Rattle.order.specs.Layout.{order_in}
-use Rattle.startup.specs.declared.Report.TheVariants.{Done}
-use Rattle.startup.specs.Report.{report_of}
+use Rattle.startup.specs.Report.{report_of, reported}
 use Rattle.order_theorems.specs.Rows.{file_claims, file_areas}
 use Rattle.order_theorems.proofs.Rows.{done_exactly, done_accepted}
 
@@ -118,7 +117,7 @@ module _ {p : ℕ} (g : Page p) (large : 4096 ≤ p) where
   usable_few made low high = omega (arith, free_few made low high, usable_free made g low high (2 ^ 52) all_pages)
 
 -- ── An order file ──
-module _ (p : ℕ) (g : Page p) (s l : List ℕ) (n : ℕ) (sheet : PageSheet) (done : report_of p s l ≡ Done n sheet) where
+module _ (p : ℕ) (g : Page p) (s l : List ℕ) (n : ℕ) (sheet : PageSheet) (done : report_of p s l ≡ reported n sheet) where
   file_sheet_lem : sheet ≡ sheet_of (free_pages p (order_in s).low (order_in s).high (map_after p (file_claims s))) (usable_in p (file_areas p s))
   unfolding map_sheet
   file_sheet_lem = ((done_exactly p s l g n sheet).0 done).2
@@ -134,7 +133,7 @@ module _ (p : ℕ) (g : Page p) (s l : List ℕ) (n : ℕ) (sheet : PageSheet) (
         usable_and_taken p (order_in s).low (order_in s).high (file_claims s) g a N all,
       )
 
-module _ (p : ℕ) (g : Page p) (large : 4096 ≤ p) (s l : List ℕ) (n : ℕ) (sheet : PageSheet) (done : report_of p s l ≡ Done n sheet) where
+module _ (p : ℕ) (g : Page p) (large : 4096 ≤ p) (s l : List ℕ) (n : ℕ) (sheet : PageSheet) (done : report_of p s l ≡ reported n sheet) where
   share_is : sheet.share ≡ share_of sheet.free sheet.usable
   share_is = rw (file_sheet_lem p g s l n sheet done)
 

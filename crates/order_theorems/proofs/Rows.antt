@@ -1,5 +1,6 @@
 -- The table of document 01, "Numbers a caller gets back", over whole order files: every number is given exactly when its row says so and
 -- no row above it does; a refused build writes nothing, and a finished one its areas. Assumes nothing.
+use Rattle.startup.specs.declared.Summary.{Summary}
 use Rattle.memory.specs.declared.MapRefusal.TheVariants.{UnknownKind as RunUnknown, MapFull as RunFull}
 use Rattle.memory.specs.declared.MapRefusal.{MapRefusal}
 use Rattle.std.specs.Prelude.{Result, Ok, Err}
@@ -46,11 +47,9 @@ use Rattle.tree_theorems.proofs.ClaimKinds.{claims_known}
 use Rattle.tree_theorems.proofs.Judging.{judged_7, judged_8, judged_0}
 use Rattle.startup.specs.declared.Refusal.{Refusal}
 use Rattle.startup.specs.declared.Refusal.TheVariants.{BadOrder, UnknownKind, BadHeader, OverLimit, BadStructure, UnreadableReg, UnreadableRanges, MapFull, TooManyAreas}
-use Rattle.startup.specs.declared.Report.{Report}
-use Rattle.startup.specs.declared.Report.TheVariants.{Done, Refused}
 use Rattle.startup.specs.Sources.{list_in, claims_by, tree_claims, pair_claims, registrations}
 use Rattle.startup.specs.Verdict.{refusal_number, verdict_number, first_of, list_verdict, judged_verdict, opened_verdict, tree_verdict, map_verdict, run_of, verdict_of}
-use Rattle.startup.specs.Report.{report_number, finished, verdict_report, verdict_slots, read_report, read_slots, report_of, slots_after}
+use Rattle.startup.specs.Report.{report_number, finished, verdict_report, verdict_slots, read_report, read_slots, report_of, slots_after, reported}
 use Rattle.order_theorems.specs.Rows.{rank, file_claims, file_areas, file_tree, file_root, HasTree, Row, Due, Table}
 
 -- ── Ranks ──
@@ -109,11 +108,11 @@ number_of MapFull = (refl, λ z. omega arith)
 number_of TooManyAreas = (refl, λ z. omega arith)
 
 report_names : Names report_number
-report_names = record { back = λ n. Refused (numbered n); named = each }
+report_names = record { back = λ n. Err (numbered n); named = each }
   where
-    each : (x : Report) → (report_number x ≡ 0) ⊎ (Refused (numbered (report_number x)) ≡ x)
-    each (Done n sheet) = inl refl
-    each (Refused r) = inr (ap Refused (number_of r).0)
+    each : (x : Result Summary Refusal) → (report_number x ≡ 0) ⊎ (Err (numbered (report_number x)) ≡ x)
+    each (Ok x) = inl refl
+    each (Err r) = inr (ap Err (number_of r).0)
 
 -- ── The kinds of a file's registrations ──
 opened_known : (t : List ℕ) (arm : Bool) (x : Opened) → Kinds (claims_by t arm x)
@@ -173,11 +172,11 @@ module _ (p : ℕ) (s l : List ℕ) where
     writes : l' ≡ flat (file_areas p s) ++ drop (n + n) l
 
   -- and where it is any
-  abbrev Says : Report → List ℕ → Type 0
-  Says (Refused r) l' = (Page p → Due p s l r) × (l' ≡ l)
-  Says (Done n sheet) l' = Ends n sheet l'
+  abbrev Says : Result Summary Refusal → List ℕ → Type 0
+  Says (Err r) l' = (Page p → Due p s l r) × (l' ≡ l)
+  Says (Ok x) l' = Ends x.count x.sheet l'
 
-  due : (r : Refusal) → Clear (rank r) → (Page p → Row p s l r) → Says (Refused r) l
+  due : (r : Refusal) → Clear (rank r) → (Page p → Row p s l r) → Says (Err r) l
   due r c f = (λ g. (f g, c g), refl)
 
   -- ── Step after step, from the last ──
@@ -188,7 +187,7 @@ module _ (p : ℕ) (s l : List ℕ) where
   by_areas a c = go (fits (file_areas p s) l) refl
     where
       go : (t : Bool) → fits (file_areas p s) l ≡ t
-          → Says (cond t (Done (length (file_areas p s)) file_sheet) (Refused TooManyAreas))
+          → Says (cond t (reported (length (file_areas p s)) file_sheet) (Err TooManyAreas))
           (cond t (flat (file_areas p s) ++ drop (length (file_areas p s) + length (file_areas p s)) l) l)
       go true e =
           let f : length (file_areas p s) ≤ slots_in l = leb-true _ _ e in
@@ -279,29 +278,29 @@ module _ (p : ℕ) (s l : List ℕ) where
       go true e = rw (order_good s e) (by_list (next BadOrder none_yet (λ g w. w ((good_order_lem s).0 e))))
       go false e = rw (order_bad s e) (due BadOrder none_yet (λ g w. let x = (good_order_lem s).1 w in never (cc)))
 
-  says_of : (x : Report) → report_of p s l ≡ x → Says x (slots_after p s l)
+  says_of : (x : Result Summary Refusal) → report_of p s l ≡ x → Says x (slots_after p s l)
   says_of x e = subst (λ y. Says y (slots_after p s l)) e says
 
   -- ── The theorems ──
 
-  case_exactly : Page p → (r : Refusal) → (report_of p s l ≡ Refused r) ↔ Due p s l r
-  case_exactly g r = (λ e. (says_of (Refused r) e).0 g, λ d. go d (report_of p s l) refl)
+  case_exactly : Page p → (r : Refusal) → (report_of p s l ≡ Err r) ↔ Due p s l r
+  case_exactly g r = (λ e. (says_of (Err r) e).0 g, λ d. go d (report_of p s l) refl)
     where
-      go : Due p s l r → (x : Report) → report_of p s l ≡ x → report_of p s l ≡ Refused r
-      go d (Refused q) e =
-          let w : Due p s l q = (says_of (Refused q) e).0 g in
+      go : Due p s l r → (x : Result Summary Refusal) → report_of p s l ≡ x → report_of p s l ≡ Err r
+      go d (Err q) e =
+          let w : Due p s l q = (says_of (Err q) e).0 g in
           ⊎_elim
           (λ (u : rank r ≤ rank q). ⊎_elim
-          (λ (v : rank q ≤ rank r). e ∙ ap Refused (rank_one q r (omega arith)))
+          (λ (v : rank q ≤ rank r). e ∙ ap Err (rank_one q r (omega arith)))
           (λ v. absurd (w.1 r v d.0))
           (le_or_lt (rank q) (rank r)))
           (λ u. absurd (d.1 q u w.0))
           (le_or_lt (rank r) (rank q))
-      go d (Done n sheet) e = absurd ((says_of (Done n sheet) e).clear g r d.0)
+      go d (Ok x) e = absurd ((says_of (Ok x) e).clear g r d.0)
 
   -- EACH NUMBER IS GIVEN EXACTLY WHEN its row says so and no row above it does
   pub exactly : Page p → (r : Refusal) → (report_number (report_of p s l) ≡ refusal_number r) ↔ Due p s l r
-  exactly g r = given report_names (Refused r) (number_of r).1 (case_exactly g r)
+  exactly g r = given report_names (Err r) (number_of r).1 (case_exactly g r)
 
   -- and 0 exactly when no row holds
   pub done_number : Page p → (report_number (report_of p s l) ≡ 0) ↔ ((q : Refusal) → Row p s l q → ⊥)
@@ -310,13 +309,13 @@ module _ (p : ℕ) (s l : List ℕ) where
     λ f. back f (report_of p s l) refl,
   )
     where
-      go : (x : Report) → report_of p s l ≡ x → report_number x ≡ 0 → (q : Refusal) → Row p s l q → ⊥
-      go (Refused r) e z = absurd ((number_of r).1 z)
-      go (Done n sheet) e z = (says_of (Done n sheet) e).clear g
+      go : (x : Result Summary Refusal) → report_of p s l ≡ x → report_number x ≡ 0 → (q : Refusal) → Row p s l q → ⊥
+      go (Err r) e z = absurd ((number_of r).1 z)
+      go (Ok x) e z = (says_of (Ok x) e).clear g
 
-      back : ((q : Refusal) → Row p s l q → ⊥) → (x : Report) → report_of p s l ≡ x → report_number (report_of p s l) ≡ 0
-      back f (Refused r) e = absurd (f r ((says_of (Refused r) e).0 g).0)
-      back f (Done n sheet) e = ap report_number e
+      back : ((q : Refusal) → Row p s l q → ⊥) → (x : Result Summary Refusal) → report_of p s l ≡ x → report_number (report_of p s l) ≡ 0
+      back f (Err r) e = absurd (f r ((says_of (Err r) e).0 g).0)
+      back f (Ok x) e = ap report_number e
 
   -- THE TABLE
   pub table : Page p → Table p s l (report_number (report_of p s l))
@@ -340,7 +339,7 @@ module _ (p : ℕ) (s l : List ℕ) where
   unfolding report_of finished
   sources_number good n f t = rw (order_good s ((good_order_lem s).1 good)) (go (verdict_of p s o))
     where
-      built : (b : Bool) (k : ℕ) (sheet : PageSheet) → report_number (cond b (Done k sheet) (Refused TooManyAreas)) ≡ n → ⊥
+      built : (b : Bool) (k : ℕ) (sheet : PageSheet) → report_number (cond b (reported k sheet) (Err TooManyAreas)) ≡ n → ⊥
       built true k sheet e = f (sym e)
       built false k sheet e = t (sym e)
 
@@ -351,34 +350,34 @@ module _ (p : ℕ) (s l : List ℕ) where
 
   -- DONE EXACTLY WHEN no row holds, and then with the count of the areas and their page sheet
   pub done_exactly : Page p → (n : ℕ) (sheet : PageSheet)
-      → (report_of p s l ≡ Done n sheet)
+      → (report_of p s l ≡ reported n sheet)
       ↔ (((q : Refusal) → Row p s l q → ⊥)
       × (n ≡ length (file_areas p s))
       × (sheet ≡ map_sheet p (order_in s).low (order_in s).high (map_after p (file_claims s))))
   done_exactly g n sheet = (
-    λ e. let w = says_of (Done n sheet) e in (w.clear g, w.count, w.pages),
+    λ e. let w = says_of (reported n sheet) e in (w.clear g, w.count, w.pages),
     λ d. go d.0 d.1 d.2 (report_of p s l) refl,
   )
     where
-      go : ((q : Refusal) → Row p s l q → ⊥) → n ≡ length (file_areas p s) → sheet ≡ file_sheet → (x : Report) → report_of p s l ≡ x → report_of p s l ≡ Done n sheet
-      go f a b (Refused q) e = absurd (f q ((says_of (Refused q) e).0 g).0)
-      go f a b (Done m t) e = let w = says_of (Done m t) e in rw (a, b, ← w.count, ← w.pages) e
+      go : ((q : Refusal) → Row p s l q → ⊥) → n ≡ length (file_areas p s) → sheet ≡ file_sheet → (x : Result Summary Refusal) → report_of p s l ≡ x → report_of p s l ≡ reported n sheet
+      go f a b (Err q) e = absurd (f q ((says_of (Err q) e).0 g).0)
+      go f a b (Ok x) e = let w = says_of (Ok x) e in rw (a, b, ← w.count, ← w.pages) e
 
   -- "A refused list, tree or build .. writes nothing."
   pub refused_writes_nothing : (report_number (report_of p s l) ≡ 0 → ⊥) → slots_after p s l ≡ l
   refused_writes_nothing f = go (report_of p s l) refl
     where
-      go : (x : Report) → report_of p s l ≡ x → slots_after p s l ≡ l
-      go (Refused r) e = (says_of (Refused r) e).1
-      go (Done n sheet) e = absurd (f (ap report_number e))
+      go : (x : Result Summary Refusal) → report_of p s l ≡ x → slots_after p s l ≡ l
+      go (Err r) e = (says_of (Err r) e).1
+      go (Ok x) e = absurd (f (ap report_number e))
 
   -- "Areas are (base, size)"; "all past the count is untouched"
-  pub done_writes : (n : ℕ) (sheet : PageSheet) → report_of p s l ≡ Done n sheet → slots_after p s l ≡ flat (file_areas p s) ++ drop (n + n) l
-  done_writes n sheet e = (says_of (Done n sheet) e).writes
+  pub done_writes : (n : ℕ) (sheet : PageSheet) → report_of p s l ≡ reported n sheet → slots_after p s l ≡ flat (file_areas p s) ++ drop (n + n) l
+  done_writes n sheet e = (says_of (reported n sheet) e).writes
 
   -- then no registration was refused, as demand 3 asks
-  pub done_accepted : (n : ℕ) (sheet : PageSheet) → report_of p s l ≡ Done n sheet → Accepted p (file_claims s)
-  done_accepted n sheet e = (says_of (Done n sheet) e).accepted
+  pub done_accepted : (n : ℕ) (sheet : PageSheet) → report_of p s l ≡ reported n sheet → Accepted p (file_claims s)
+  done_accepted n sheet e = (says_of (reported n sheet) e).accepted
 
   -- 512 slots are enough, since there are never more areas than entries held
   pub enough_slots : Page p → 1024 ≤ length l → report_number (report_of p s l) ≡ 3 → ⊥

@@ -1,5 +1,7 @@
 -- Worked examples, each a closed case that antt computes: the text of the document's case S and of a refusal, a line
 -- with no share, and the longest number. Assumes nothing.
+use Rattle.startup.specs.Report.{reported}
+use Rattle.std.specs.Prelude.{Err}
 use mathlib.Core.Path.{◌≡◌, refl}
 use Prim.Native.Nat.{ℕ}
 use mathlib.Core.List.{List, [], ◌∷◌, ◌++◌}
@@ -7,7 +9,6 @@ use lib.Ieee.{to_bits}
 use Rattle.sheet.specs.Share.{quotient, counted}
 use Rattle.sheet.specs.Sheet.{sheet_of}
 use Rattle.startup.specs.declared.Refusal.TheVariants.{BadOrder}
-use Rattle.startup.specs.declared.Report.TheVariants.{Done, Refused}
 use Rattle.report_text.specs.Text.{width_by, decimal_text, hex_text, count_line, area_line, area_lines, share_text, pages_line, refused_line, text_of}
 
 -- `areas 3`
@@ -40,13 +41,13 @@ pages =
     102 ∷ 101 ∷ 55 ∷ 102 ∷ 56 ∷ 48 ∷ 48 ∷ 48 ∷ 48 ∷ 48 ∷ 48 ∷ 48 ∷ 48 ∷ 48 ∷ 48 ∷ 10 ∷ []
 
 pub case_s :
-    text_of (Done 3 (sheet_of 2048 1534)) (0 ∷ 0x10_0000 ∷ 0x30_0000 ∷ 0x10_0000 ∷ 0x40_2000 ∷ 0x3f_e000 ∷ [])
+    text_of (reported 3 (sheet_of 2048 1534)) (0 ∷ 0x10_0000 ∷ 0x30_0000 ∷ 0x10_0000 ∷ 0x40_2000 ∷ 0x3f_e000 ∷ [])
     ≡ count ++ (first ++ (second ++ (third ++ pages)))
 unfolding width_by decimal_text hex_text count_line area_line area_lines share_text pages_line text_of quotient counted to_bits
 case_s = refl
 
 -- `refused 9`
-pub refused_order : (l : List ℕ) → text_of (Refused BadOrder) l ≡ 114 ∷ 101 ∷ 102 ∷ 117 ∷ 115 ∷ 101 ∷ 100 ∷ 32 ∷ 57 ∷ 10 ∷ []
+pub refused_order : (l : List ℕ) → text_of (Err BadOrder) l ≡ 114 ∷ 101 ∷ 102 ∷ 117 ∷ 115 ∷ 101 ∷ 100 ∷ 32 ∷ 57 ∷ 10 ∷ []
 unfolding width_by decimal_text refused_line text_of
 refused_order l = refl
 

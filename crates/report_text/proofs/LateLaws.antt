@@ -1,7 +1,7 @@
 -- Laws of the text of late claims: which line is the last, and the whole text by what the build reported.
 -- Assumes nothing.
 use Rattle.late_claim.specs.declared.LateRefusal.{LateRefusal}
-use Rattle.std.specs.Prelude.{Result}
+use Rattle.std.specs.Prelude.{Result, Err}
 use mathlib.Core.Path.{◌≡◌, sym, ap, ◌∙◌}
 use mathlib.Core.List.{List, ◌++◌}
 use Prim.Native.Nat.{ℕ, ◌-◌, ◌/◌, min}
@@ -13,10 +13,9 @@ use Rattle.sheet.specs.declared.PageSheet.{PageSheet}
 use Rattle.bootloader.specs.List.{claims}
 use Rattle.order.specs.Layout.{file_end}
 use Rattle.startup.specs.declared.Refusal.{Refusal}
-use Rattle.startup.specs.declared.Report.TheVariants.{Done, Refused}
 use Rattle.startup.specs.declared.Start.{Start}
 use Rattle.startup.specs.Verdict.{refusal_number}
-use Rattle.startup.specs.Report.{report_of, slots_after}
+use Rattle.startup.specs.Report.{report_of, slots_after, reported}
 use Rattle.startup.specs.Start.{map_left, Starts}
 use Rattle.startup.proofs.StartLaws.{left_made}
 use Rattle.report_text.specs.Text.{count_line, area_lines, refused_line}
@@ -50,16 +49,16 @@ module _ {p : ℕ} (s : List ℕ) {l l' : List ℕ} {e : ℕ} {x : Start} (end :
   report_is : report_of p (take (file_end s) s) l ≡ x.report
   report_is = rw (← end) (sym starts.reports.report)
 
-  pub text_refused : {f : Refusal} {k : ℕ} → x.report ≡ Refused f → k ≡ refusal_number f → refused_line k ≡ late_text p s l
+  pub text_refused : {f : Refusal} {k : ℕ} → x.report ≡ Err f → k ≡ refusal_number f → refused_line k ≡ late_text p s l
   unfolding late_text text_behind
   text_refused {f} {k} d is =
-      let r : report_of p (take (file_end s) s) l ≡ Refused f = report_is ∙ d in
+      let r : report_of p (take (file_end s) s) l ≡ Err f = report_is ∙ d in
       rw (r, is)
 
-  pub slots_refused : {f : Refusal} → x.report ≡ Refused f → l' ≡ late_slots p s l
+  pub slots_refused : {f : Refusal} → x.report ≡ Err f → l' ≡ late_slots p s l
   unfolding late_slots
   slots_refused {f} d =
-      let r : report_of p (take (file_end s) s) l ≡ Refused f = report_is ∙ d in
+      let r : report_of p (take (file_end s) s) l ≡ Err f = report_is ∙ d in
       rw (r, ← end) starts.reports.slots
 
   -- what the code cuts off behind the file is all that is there
@@ -67,9 +66,9 @@ module _ {p : ℕ} (s : List ℕ) {l l' : List ℕ} {e : ℕ} {x : Start} (end :
   behind = ap (λ (k : ℕ). take k (drop e s)) (sym (length-drop e s)) ∙ take-length (drop e s)
 
   -- what the claims behind the file left
-  module _ {n : ℕ} {sheet : PageSheet} (done : x.report ≡ Done n sheet) {y : LateRun} {l'' : List ℕ}
+  module _ {n : ℕ} {sheet : PageSheet} (done : x.report ≡ reported n sheet) {y : LateRun} {l'' : List ℕ}
       (run : ran y l'' ≡ late_all p x.map n l' 0 (claims (take (length s - e) (drop e s)))) where
-    is_done_lem : report_of p (take (file_end s) s) l ≡ Done n sheet
+    is_done_lem : report_of p (take (file_end s) s) l ≡ reported n sheet
     is_done_lem = report_is ∙ done
 
     run_is : ran y l'' ≡ late_all p (map_left p (take (file_end s) s) l) n (slots_after p (take (file_end s) s) l) 0 (claims (drop (file_end s) s))

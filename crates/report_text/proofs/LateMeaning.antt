@@ -1,5 +1,7 @@
 -- What the text of late claims says beside the report: document 02, request L3, its program. Assumes nothing.
-use Rattle.std.specs.Prelude.{Ok}
+use Rattle.startup.specs.declared.Refusal.{Refusal}
+use Rattle.startup.specs.declared.Summary.{Summary}
+use Rattle.std.specs.Prelude.{Ok, Result, Err}
 use mathlib.Core.Path.{◌≡◌, refl}
 use mathlib.Core.List.{List, ◌++◌}
 use Prim.Native.Nat.{ℕ, ◌/◌, ◌<◌}
@@ -11,9 +13,7 @@ use Rattle.memory.specs.declared.MemoryMap.{MemoryMap}
 use Rattle.bootloader.specs.List.{claims, claims_at}
 use Rattle.order.specs.Layout.{GoodOrder, file_end}
 use Rattle.order.proofs.EndLaws.{file_before, file_behind}
-use Rattle.startup.specs.declared.Report.{Report}
-use Rattle.startup.specs.declared.Report.TheVariants.{Done, Refused}
-use Rattle.startup.specs.Report.{report_number, report_of, slots_after}
+use Rattle.startup.specs.Report.{report_number, report_of, slots_after, reported}
 use Rattle.report_text.specs.Text.{count_line, area_lines, pages_line, text_of, report_text}
 use Rattle.late_run.specs.Run.{run, late_all}
 use Rattle.report_text.specs.LateText.{made_line, lines_of, text_by, text_behind, late_text}
@@ -41,12 +41,12 @@ module _ (p : ℕ) (s l : List ℕ) where
   unfolding late_text text_behind report_text text_of
   refused_alike = go (report_of p file l)
     where
-      go : (r : Report) → (report_number r ≡ 0 → ⊥) → text_by p file rest l r ≡ text_of r (slots_after p file l)
-      go (Done n sheet) f = absurd (f refl)
-      go (Refused r) f = refl
+      go : (r : Result Summary Refusal) → (report_number r ≡ 0 → ⊥) → text_by p file rest l r ≡ text_of r (slots_after p file l)
+      go (Ok x) f = absurd (f refl)
+      go (Err r) f = refl
 
   -- "With no late claim the area lines are the report's": the count and the areas as the report has them, and then `late 0`
-  pub no_claims : length rest < 24 → {n : ℕ} {sheet : PageSheet} → report_of p file l ≡ Done n sheet
+  pub no_claims : length rest < 24 → {n : ℕ} {sheet : PageSheet} → report_of p file l ≡ reported n sheet
       → (late_text p s l ≡ count_line n ++ (area_lines (slots_after p file l) (slots_to (slots_after p file l) n) 0 ++ made_line 0))
       × (report_text p file l ≡ count_line n ++ (area_lines (slots_after p file l) (slots_to (slots_after p file l) n) 0 ++ pages_line sheet))
   unfolding late_text text_behind lines_of report_text text_of

@@ -1,6 +1,7 @@
 -- Laws of the report's lines: how long they are, the share's text at each answer, one area more behind the others and the loop that puts
 -- them; and the whole text at each report. Assumes nothing.
-use Rattle.std.specs.Prelude.{Option, Some, None, ℕ}
+use Rattle.startup.specs.declared.Summary.{Summary}
+use Rattle.std.specs.Prelude.{Option, Some, None, ℕ, Result, Err}
 use mathlib.Core.Path.{◌≡◌, refl, sym, ap, ◌∙◌}
 use mathlib.Core.List.{List, [], ◌++◌, append_assoc, append-nil}
 use Prim.Native.Nat.{ℕ, zero, suc, ◌+◌, ◌*◌, ◌/◌, ◌≤◌, ◌<◌, min}
@@ -12,10 +13,8 @@ use lib.Seq.{paste-zero}
 use Rattle.sheet.specs.declared.PageSheet.{PageSheet}
 use Rattle.sheet.specs.Share.{share_of, bits_of}
 use Rattle.startup.specs.declared.Refusal.{Refusal}
-use Rattle.startup.specs.declared.Report.{Report}
-use Rattle.startup.specs.declared.Report.TheVariants.{Done, Refused}
 use Rattle.startup.specs.Verdict.{refusal_number}
-use Rattle.startup.specs.Report.{Reports}
+use Rattle.startup.specs.Report.{Reports, reported}
 use Rattle.report_text.specs.Text.{hex_text, bits_text, share_text, newline, space, decimal_text, count_line, area_line, area_lines, pages_line, refused_line, text_of, report_text}
 use Rattle.report_text.specs.Writing.{Writes}
 use Rattle.report_text.proofs.DigitsLaws.{hex_length, decimal_length}
@@ -107,20 +106,20 @@ unfolding count_line
 count_length n = omega (arith, length-append (decimal_text n) newline, decimal_length n)
 
 -- ── The whole text ──
-module _ {report : Report} (l : List ℕ) where
-  pub refused_text : {r : Refusal} {n : ℕ} → report ≡ Refused r → n ≡ refusal_number r → refused_line n ≡ text_of report l
+module _ {report : (Result Summary Refusal)} (l : List ℕ) where
+  pub refused_text : {r : Refusal} {n : ℕ} → report ≡ Err r → n ≡ refusal_number r → refused_line n ≡ text_of report l
   unfolding text_of
-  refused_text e is = ap refused_line is ∙ ap (λ (x : Report). text_of x l) (sym e)
+  refused_text e is = ap refused_line is ∙ ap (λ (x : Result Summary Refusal). text_of x l) (sym e)
 
-  pub done_text : {n k : ℕ} {sheet : PageSheet} → report ≡ Done n sheet → length l ≡ 1024 → k ≡ min n 512
+  pub done_text : {n k : ℕ} {sheet : PageSheet} → report ≡ reported n sheet → length l ≡ 1024 → k ≡ min n 512
       → count_line n ++ (area_lines l k 0 ++ pages_line sheet) ≡ text_of report l
   unfolding text_of
   done_text {n} {k} {sheet} e slots is =
       ap (λ (j : ℕ). count_line n ++ (area_lines l j 0 ++ pages_line sheet)) (is ∙ ap (λ (m : ℕ). min n (m / 2)) (sym slots))
-      ∙ ap (λ (x : Report). text_of x l) (sym e)
+      ∙ ap (λ (x : Result Summary Refusal). text_of x l) (sym e)
 
 -- the text of what the build answered and left, as the text of the order file
-pub text_of_report : {p : ℕ} {s l l' out out' : List ℕ} {r : Report} {k : ℕ} → Reports p s l l' r → Writes out 0 (text_of r l') out' k
+pub text_of_report : {p : ℕ} {s l l' out out' : List ℕ} {r : (Result Summary Refusal)} {k : ℕ} → Reports p s l l' r → Writes out 0 (text_of r l') out' k
     → Writes out 0 (report_text p s l) out' k
 unfolding report_text
 text_of_report b w = rw (← b.report, ← b.slots) w

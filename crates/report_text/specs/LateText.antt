@@ -1,11 +1,11 @@
 -- The text of late claims behind an order file, byte for byte: document 02, request L3.
+use Rattle.startup.specs.declared.Refusal.{Refusal}
+use Rattle.startup.specs.declared.Summary.{Summary}
 use Rattle.late_claim.specs.declared.LateRefusal.{LateRefusal}
-use Rattle.std.specs.Prelude.{ℕ, List, [], ◌∷◌, ◌++◌, take, drop, Result}
+use Rattle.std.specs.Prelude.{ℕ, List, [], ◌∷◌, ◌++◌, take, drop, Result, Ok, Err}
 use Rattle.sheet.specs.Sheet.{slots_to}
 use Rattle.bootloader.specs.List.{claims}
 use Rattle.order.specs.Layout.{file_end}
-use Rattle.startup.specs.declared.Report.{Report}
-use Rattle.startup.specs.declared.Report.TheVariants.{Done, Refused}
 use Rattle.startup.specs.Verdict.{refusal_number}
 use Rattle.startup.specs.Report.{report_of, slots_after}
 use Rattle.startup.specs.Start.{map_left}
@@ -37,10 +37,10 @@ abbrev pub run_text : Run → List ℕ
 run_text r = lines_of r.count r.table r.answer r.index
 
 -- the order file f with the bytes t behind it, for lent slots l, where the build reported
-abbrev pub text_by : ℕ → List ℕ → List ℕ → List ℕ → Report → List ℕ
-text_by p f t l (Done n sheet) = run_text (late_all p (map_left p f l) n (slots_after p f l) 0 (claims t))
+abbrev pub text_by : ℕ → List ℕ → List ℕ → List ℕ → Result Summary Refusal → List ℕ
+text_by p f t l (Ok x) = run_text (late_all p (map_left p f l) x.count (slots_after p f l) 0 (claims t))
 -- "An order file that is refused prints `refused NUMBER` alone, as the report does."
-text_by p f t l (Refused r) = refused_line (refusal_number r)
+text_by p f t l (Err r) = refused_line (refusal_number r)
 
 unfoldable pub text_behind : ℕ → List ℕ → List ℕ → List ℕ → List ℕ
 text_behind p f t l = text_by p f t l (report_of p f l)
@@ -50,9 +50,9 @@ unfoldable pub late_text : ℕ → List ℕ → List ℕ → List ℕ
 late_text p s l = text_behind p (take (file_end s) s) (drop (file_end s) s) l
 
 -- the slots when the claims are made; those of a refused build are as they were
-abbrev pub slots_by : ℕ → List ℕ → List ℕ → List ℕ → Report → List ℕ
-slots_by p f t l (Done n sheet) = (late_all p (map_left p f l) n (slots_after p f l) 0 (claims t)).table
-slots_by p f t l (Refused r) = slots_after p f l
+abbrev pub slots_by : ℕ → List ℕ → List ℕ → List ℕ → Result Summary Refusal → List ℕ
+slots_by p f t l (Ok x) = (late_all p (map_left p f l) x.count (slots_after p f l) 0 (claims t)).table
+slots_by p f t l (Err r) = slots_after p f l
 
 -- THE SLOTS after an input s, where they were l
 unfoldable pub late_slots : ℕ → List ℕ → List ℕ → List ℕ

@@ -1,11 +1,11 @@
 -- The report's text, byte for byte: document 01, "Order file and report".
-use Rattle.std.specs.Prelude.{ℕ, zero, suc, ◌+◌, ◌/◌, cond, List, [], ◌∷◌, ◌++◌, ltb, get_or, Option, Some, None}
+use Rattle.startup.specs.declared.Refusal.{Refusal}
+use Rattle.startup.specs.declared.Summary.{Summary}
+use Rattle.std.specs.Prelude.{ℕ, zero, suc, ◌+◌, ◌/◌, cond, List, [], ◌∷◌, ◌++◌, ltb, get_or, Option, Some, None, Result, Ok, Err}
 use Rattle.io.specs.Digits.{last_digits}
 use Rattle.sheet.specs.declared.PageSheet.{PageSheet}
 use Rattle.sheet.specs.Share.{share_of, bits_of}
 use Rattle.sheet.specs.Sheet.{slots_to}
-use Rattle.startup.specs.declared.Report.{Report}
-use Rattle.startup.specs.declared.Report.TheVariants.{Done, Refused}
 use Rattle.startup.specs.Verdict.{refusal_number}
 use Rattle.startup.specs.Report.{report_of, slots_after}
 
@@ -61,9 +61,9 @@ unfoldable pub refused_line : ℕ → List ℕ
 refused_line n = (114 ∷ 101 ∷ 102 ∷ 117 ∷ 115 ∷ 101 ∷ 100 ∷ 32 ∷ []) ++ (decimal_text n ++ newline)
 
 -- the text of a report whose areas stand in l
-unfoldable pub text_of : Report → List ℕ → List ℕ
-text_of (Done n sheet) l = count_line n ++ (area_lines l (slots_to l n) 0 ++ pages_line sheet)
-text_of (Refused r) l = refused_line (refusal_number r)
+unfoldable pub text_of : Result Summary Refusal → List ℕ → List ℕ
+text_of (Ok x) l = count_line x.count ++ (area_lines l (slots_to l x.count) 0 ++ pages_line x.sheet)
+text_of (Err r) l = refused_line (refusal_number r)
 
 -- THE TEXT of an order file s, for lent slots l
 unfoldable pub report_text : ℕ → List ℕ → List ℕ → List ℕ

@@ -1,5 +1,7 @@
 -- What `wharfthrum_claim_late` asks of the map's memory, the calls leave so: a caller that uses only these calls owes nothing. And a refused
 -- claim leaves every number of it. Assumes nothing.
+use Rattle.startup.specs.declared.Summary.{Summary}
+use Rattle.std.specs.Prelude.{Result, Ok, Err}
 use mathlib.Core.Path.{◌≡◌, ap, sym, subst, ◌∙◌}
 use mathlib.Core.List.{List}
 use Prim.Native.Nat.{ℕ}
@@ -15,8 +17,6 @@ use Rattle.map_numbers.specs.Numbers.{map_in, numbers_of}
 use Rattle.map_numbers.proofs.NumberLaws.{map_numbers, numbers_map}
 use Rattle.startup.specs.declared.Refusal.{Refusal}
 use Rattle.startup.specs.declared.Refusal.TheVariants.{BadOrder, UnknownKind, BadHeader, OverLimit, BadStructure, UnreadableReg, UnreadableRanges, MapFull, TooManyAreas}
-use Rattle.startup.specs.declared.Report.{Report}
-use Rattle.startup.specs.declared.Report.TheVariants.{Done, Refused}
 use Rattle.startup.specs.Verdict.{refusal_number}
 use Rattle.startup.specs.Report.{report_of, report_number}
 use Rattle.startup.specs.Start.{map_left}
@@ -44,9 +44,9 @@ pub build_asks : (p : ℕ) (s l k : List ℕ) → Page p → report_number (repo
 unfolding memory_after
 build_asks p s l k g = go (report_of p s l)
   where
-    go : (r : Report) → report_number r ≡ 0 → Made p (map_in (numbers_left r (map_left p s l) k))
-    go (Done n sheet) e = stored_made p (map_left p s l) (left_made p s l g)
-    go (Refused r) e = absurd (not_zero r e)
+    go : (r : Result Summary Refusal) → report_number r ≡ 0 → Made p (map_in (numbers_left r (map_left p s l) k))
+    go (Ok x) e = stored_made p (map_left p s l) (left_made p s l g)
+    go (Err r) e = absurd (not_zero r e)
 
 -- AFTER EVERY LATE CLAIM
 pub claim_asks : (p : ℕ) (k : List ℕ) (c : Claim) (n : ℕ) (l : List ℕ) → Page p → Made p (map_in k) → Made p (map_in (numbers_of (late_of p (map_in k) c n l).map))

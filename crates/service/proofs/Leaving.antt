@@ -1,4 +1,6 @@
 -- What the two calls over a map's memory leave, from what their callees leave. Assumes nothing.
+use Rattle.startup.specs.declared.Summary.{Summary}
+use Rattle.std.specs.Prelude.{Result, Err}
 use mathlib.Core.Path.{◌≡◌, ap, sym, ◌∙◌}
 use mathlib.Core.List.{List}
 use Prim.Native.Nat.{ℕ}
@@ -9,23 +11,21 @@ use Rattle.late_claim.specs.Late.{After, late_number, late_of, after}
 use Rattle.map_numbers.specs.Numbers.{map_in, numbers_of}
 use Rattle.sheet.specs.declared.PageSheet.{PageSheet}
 use Rattle.startup.specs.declared.Refusal.{Refusal}
-use Rattle.startup.specs.declared.Report.{Report}
-use Rattle.startup.specs.declared.Report.TheVariants.{Done, Refused}
-use Rattle.startup.specs.Report.{report_of}
+use Rattle.startup.specs.Report.{report_of, reported}
 use Rattle.startup.specs.Start.{map_left}
 use Rattle.service.specs.declared.WharfthrumLate.{WharfthrumLate}
 use Rattle.service.specs.Late.{numbers_left, memory_after, plain_late}
 
 -- ── A build: its report r ──
-module _ (p : ℕ) (s l k : List ℕ) (r : Report) (is : r ≡ report_of p s l) where
-  pub left_refused : {f : Refusal} → r ≡ Refused f → k ≡ memory_after p s l k
+module _ (p : ℕ) (s l k : List ℕ) (r : Result Summary Refusal) (is : r ≡ report_of p s l) where
+  pub left_refused : {f : Refusal} → r ≡ Err f → k ≡ memory_after p s l k
   unfolding memory_after
-  left_refused e = sym (ap (λ (x : Report). numbers_left x (map_left p s l) k) (sym is ∙ e))
+  left_refused e = sym (ap (λ (x : Result Summary Refusal). numbers_left x (map_left p s l) k) (sym is ∙ e))
 
-  pub left_done : {n : ℕ} {sheet : PageSheet} → r ≡ Done n sheet → {m : MemoryMap} → m ≡ map_left p s l
+  pub left_done : {n : ℕ} {sheet : PageSheet} → r ≡ reported n sheet → {m : MemoryMap} → m ≡ map_left p s l
       → {k' : List ℕ} → k' ≡ numbers_of m → k' ≡ memory_after p s l k
   unfolding memory_after
-  left_done e h i = i ∙ ap numbers_of h ∙ sym (ap (λ (x : Report). numbers_left x (map_left p s l) k) (sym is ∙ e))
+  left_done e h i = i ∙ ap numbers_of h ∙ sym (ap (λ (x : Result Summary Refusal). numbers_left x (map_left p s l) k) (sym is ∙ e))
 
 -- ── A late claim: on the map m, which was loaded from the numbers k, it left r and the slots l' ──
 abbrev plain_with : ℕ → Late → WharfthrumLate

@@ -1,11 +1,11 @@
 -- A build's answer in plain fields, for a caller that knows no enums: document 01, "Where an answer is an enum, a definition gives this
 -- paper's number and values for each case of the enum."
-use Rattle.std.specs.Prelude.{ℕ, Float}
+use Rattle.startup.specs.declared.Refusal.{Refusal}
+use Rattle.startup.specs.declared.Summary.{Summary}
+use Rattle.std.specs.Prelude.{ℕ, Float, Result, Ok, Err}
 use Rattle.sheet.specs.declared.Share.{Share}
 use Rattle.sheet.specs.declared.Share.TheVariants.{NoFree, Of}
 use Rattle.sheet.specs.Nearest.{plus_zero}
-use Rattle.startup.specs.declared.Report.{Report}
-use Rattle.startup.specs.declared.Report.TheVariants.{Done, Refused}
 use Rattle.startup.specs.Verdict.{refusal_number}
 use Rattle.service.specs.declared.WharfthrumReport.{WharfthrumReport}
 
@@ -20,15 +20,16 @@ share_float NoFree = plus_zero
 share_float (Of x) = x
 
 -- "0 is done." A refusal has its number, and 0 in every other field
-abbrev pub plain_of : Report → WharfthrumReport
-plain_of (Done n sheet) =
+abbrev pub plain_of : Result Summary Refusal → WharfthrumReport
+plain_of (Ok x) =
     record {
-      number = 0;
-      count = n;
-      free = sheet.free;
-      usable = sheet.usable;
-      has_share = has_share sheet.share;
-      share = share_float sheet.share;
+      number =
+0;
+      count = x.count;
+      free = x.sheet.free;
+      usable = x.sheet.usable;
+      has_share = has_share x.sheet.share;
+      share = share_float x.sheet.share;
     }
-plain_of (Refused r) =
+plain_of (Err r) =
     record { number = refusal_number r; count = 0; free = 0; usable = 0; has_share = 0; share = plus_zero }

@@ -1,4 +1,3 @@
-pub mod PairLaws
 pub mod ListLaws
 pub mod TreeLaws
 pub mod SourceLaws

@@ -1,5 +1,6 @@
 -- The report and the slots, as the code ends: by what reading the order file said, by the verdict on its sources, and by what the build
 -- answered. Assumes nothing.
+use Rattle.startup.specs.declared.Summary.{Summary}
 use Rattle.order.specs.declared.OrderFault.TheVariants.{BadOrder as NoOrder}
 use Rattle.areas.specs.declared.AreasRefusal.TheVariants.{TooManyAreas as BuildFull}
 use Rattle.areas.specs.declared.AreasRefusal.{AreasRefusal}
@@ -20,14 +21,13 @@ use Rattle.areas.specs.Table.{flat, fits, answer_of, table_of, Builds}
 use Rattle.sheet.specs.declared.PageSheet.{PageSheet}
 use Rattle.sheet.specs.Sheet.{free_pages, usable_in, slot_pages, slots_to, sheet_of, map_sheet}
 use Rattle.order.specs.declared.Order.{Order}
+use Rattle.order.specs.declared.OrderFault.{OrderFault}
 use Rattle.order.specs.Layout.{order_of}
 use Rattle.startup.specs.declared.Refusal.{Refusal}
 use Rattle.startup.specs.declared.Refusal.TheVariants.{BadOrder, TooManyAreas}
 use Rattle.startup.specs.declared.Sources.{Sources}
-use Rattle.startup.specs.declared.Report.{Report}
-use Rattle.startup.specs.declared.Report.TheVariants.{Done, Refused}
-use Rattle.startup.specs.Verdict.{run_of, verdict_of, judged_sources, sources_of}
-use Rattle.startup.specs.Report.{finished, report_of, slots_after, Reports, Finishes}
+use Rattle.startup.specs.Verdict.{of_order, of_areas, run_of, verdict_of, judged_sources, sources_of}
+use Rattle.startup.specs.Report.{finished, report_of, slots_after, Reports, Finishes, reported}
 use Rattle.startup.proofs.SourceLaws.{sources_made}
 use Rattle.startup.proofs.SheetLaws.{usable_fits, table_usable}
 
@@ -61,15 +61,15 @@ built_done areas l n e = go (answer_of areas l) (build_way areas l) e
 
 -- ── The end: r is what the build answered, and l' the slots then ──
 module _ (p : ℕ) (m : MemoryMap) (low high : Option ℕ) (l l' : List ℕ) (r : Result ℕ AreasRefusal) (builds : Builds p m low high l l' r) where
-  pub finish_full : r ≡ Err BuildFull → Finishes p m low high l l' (Refused TooManyAreas)
+  pub finish_full : (f : AreasRefusal) → r ≡ Err f → Finishes p m low high l l' (Err (of_areas f))
   unfolding finished
-  finish_full e =
+  finish_full BuildFull e =
       let f = built_full (areas_of p low high m) l (sym builds.answer ∙ e) in
       record { report = rw f; slots = builds.table }
 
   pub finish_done : Page p → Made p m → (n : ℕ) → r ≡ Ok n → (free usable : ℕ) (sheet : PageSheet)
       → free ≡ free_pages p low high m → usable ≡ slot_pages p l' (slots_to l' n) 0 → sheet ≡ sheet_of free usable
-      → Finishes p m low high l l' (Done n sheet)
+      → Finishes p m low high l l' (reported n sheet)
   unfolding finished map_sheet table_of
   finish_done g made n e free usable sheet ef eu es =
       let b = built_done (areas_of p low high m) l n (sym builds.answer ∙ e) in
@@ -100,18 +100,18 @@ module _ (p : ℕ) (s : List ℕ) (o : Order) (x : Sources) (is : x ≡ sources_
   map_made g = rw is (sources_made p g s o)
 
   module _ (l : List ℕ) (read : Ok o ≡ order_of s) where
-    pub reports_refused : (f : Refusal) → x.verdict ≡ Err f → Reports p s l l (Refused f)
+    pub reports_refused : (f : Refusal) → x.verdict ≡ Err f → Reports p s l l (Err f)
     unfolding report_of slots_after
     reports_refused f e =
         let v : verdict_of p s o ≡ Err f = sym verdict_is ∙ e in
         record { report = rw (← read, v); slots = rw (← read, v) }
 
-    pub reports_finished : x.verdict ≡ Ok tt → (l' : List ℕ) (r : Report) → Finishes p x.map o.low o.high l l' r → Reports p s l l' r
+    pub reports_finished : x.verdict ≡ Ok tt → (l' : List ℕ) (r : Result Summary Refusal) → Finishes p x.map o.low o.high l l' r → Reports p s l l' r
     unfolding report_of slots_after
     reports_finished e l' r h =
         let v : verdict_of p s o ≡ (Ok tt) = sym verdict_is ∙ e in
         record { report = rw (← read, v, ← map_is e) h.report; slots = rw (← read, v, ← map_is e) h.slots }
 
-pub reports_no_order : (p : ℕ) (s l : List ℕ) → (Err NoOrder) ≡ order_of s → Reports p s l l (Refused BadOrder)
+pub reports_no_order : (p : ℕ) (s l : List ℕ) (f : OrderFault) → Err f ≡ order_of s → Reports p s l l (Err (of_order f))
 unfolding report_of slots_after
-reports_no_order p s l e = record { report = rw (← e); slots = rw (← e) }
+reports_no_order p s l f e = record { report = rw (← e); slots = rw (← e) }

@@ -1,5 +1,5 @@
 -- The map beside the report, as the code ends; and it is one that every call takes. Assumes nothing.
-use Rattle.order.specs.declared.OrderFault.TheVariants.{BadOrder as NoOrder}
+use Rattle.startup.specs.declared.Summary.{Summary}
 use Rattle.order.specs.declared.OrderFault.{OrderFault}
 use Rattle.std.specs.Prelude.{Option, ℕ, Result, Ok, Err}
 use mathlib.Core.Path.{◌≡◌, refl}
@@ -14,26 +14,24 @@ use Rattle.order.specs.declared.Order.{Order}
 use Rattle.order.specs.Layout.{order_of}
 use Rattle.startup.specs.declared.Refusal.{Refusal}
 use Rattle.startup.specs.declared.Sources.{Sources}
-use Rattle.startup.specs.declared.Report.{Report}
-use Rattle.startup.specs.declared.Report.TheVariants.{Done, Refused}
 use Rattle.startup.specs.declared.Start.{Start}
 use Rattle.startup.specs.Verdict.{sources_of}
-use Rattle.startup.specs.Report.{report_of, Reports, Finishes}
+use Rattle.startup.specs.Report.{report_of, Reports, Finishes, reported}
 use Rattle.startup.specs.Start.{kept_map, file_map, map_left, Starts, start, not_started, StartFinishes}
 use Rattle.startup.proofs.SourceLaws.{run_made}
 use Rattle.startup.proofs.ReportLaws.{map_is, reports_finished}
 
 -- ── The end: r is what finishing the map m answered ──
-module _ (p : ℕ) (m : MemoryMap) (low high : Option ℕ) (l l' : List ℕ) (r : Report) (h : Finishes p m low high l l' r) where
-  pub start_refused : (f : Refusal) → r ≡ Refused f → (x : Start) → x ≡ not_started f → StartFinishes p m low high l l' x
+module _ (p : ℕ) (m : MemoryMap) (low high : Option ℕ) (l l' : List ℕ) (r : Result Summary Refusal) (h : Finishes p m low high l l' r) where
+  pub start_refused : (f : Refusal) → r ≡ Err f → (x : Start) → x ≡ not_started f → StartFinishes p m low high l l' x
   start_refused f e x i = rw i (record { finishes = rw e at h; map = refl })
 
-  pub start_done : (n : ℕ) (sheet : PageSheet) → r ≡ Done n sheet → StartFinishes p m low high l l' (start m r)
+  pub start_done : (n : ℕ) (sheet : PageSheet) → r ≡ reported n sheet → StartFinishes p m low high l l' (start m r)
   start_done n sheet e = record { finishes = h; map = rw e }
 
 -- ── The whole ──
 module _ (p : ℕ) (s l : List ℕ) where
-  pub starts_refused : (f : Refusal) → Reports p s l l (Refused f) → (x : Start) → x ≡ not_started f → Starts p s l l x
+  pub starts_refused : (f : Refusal) → Reports p s l l (Err f) → (x : Start) → x ≡ not_started f → Starts p s l l x
   unfolding map_left
   starts_refused f h x i = rw i (record { reports = h; map = rw (← h.report) })
 
@@ -51,9 +49,9 @@ module _ (p : ℕ) (s l : List ℕ) where
   left_made g = go (report_of p s l)
     where
       file : (o : Result Order OrderFault) → Made p (file_map p s o)
-      file (Err NoOrder) = blank_made p
+      file (Err f) = blank_made p
       file (Ok o) = run_made p g s o
 
-      go : (r : Report) → Made p (kept_map r (file_map p s (order_of s)))
-      go (Done n sheet) = file (order_of s)
-      go (Refused f) = blank_made p
+      go : (r : Result Summary Refusal) → Made p (kept_map r (file_map p s (order_of s)))
+      go (Ok x) = file (order_of s)
+      go (Err f) = blank_made p

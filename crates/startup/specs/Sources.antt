@@ -1,6 +1,6 @@
 -- The registrations of an order file: document 01, "Sources in order: the bootloader list .., the tree's reservations, the tree's devices,
 -- then kernel as Kernel, and env, hwdesc, bootstrap, stack as IdentityMap."
-use Rattle.std.specs.Prelude.{ℕ, Bool, cond, List, [], ◌∷◌, ◌++◌}
+use Rattle.std.specs.Prelude.{Bool, List, [], ◌∷◌, ◌++◌, ℕ, Option, Some, None, Result, Ok, Err}
 use Rattle.words.specs.Bytes.{part_of}
 use Rattle.cells.specs.declared.Region.{Region}
 use Rattle.entry.specs.declared.BootloaderMemoryKind.{BootloaderMemoryKind}
@@ -8,12 +8,9 @@ use Rattle.entry.specs.declared.BootloaderMemoryKind.TheVariants.{Kernel, Identi
 use Rattle.entry.specs.Kind.{number_of}
 use Rattle.entry.specs.declared.Claim.{Claim}
 use Rattle.entry.specs.Claim.{claim}
-use Rattle.memory.specs.declared.Registered.{Registered}
-use Rattle.memory.specs.Map.{registered}
-use Rattle.memory.specs.Run.{is_done}
 use Rattle.bootloader.specs.List.{claims}
-use Rattle.fdt.specs.declared.Opened.{Opened}
-use Rattle.fdt.specs.declared.Opened.TheVariants.{NoTree, Tree, BadHeader, OverLimit, BadStructure}
+use Rattle.fdt.specs.declared.Blocks.{Blocks}
+use Rattle.fdt.specs.declared.TreeFault.{TreeFault}
 use Rattle.fdt.specs.Header.{structure_of, strings_of}
 use Rattle.fdt.specs.Tree.{tree_of}
 use Rattle.fdt.specs.Opening.{opened_of}
@@ -29,12 +26,10 @@ abbrev pub tree_in : List ℕ → Order → List ℕ
 tree_in s o = part_of s o.tree.at o.tree.len
 
 -- what a tree claims: its reservations, then its devices; what is no tree claims nothing
-abbrev pub claims_by : List ℕ → Bool → Opened → List Claim
-claims_by t arm (Tree k) = claims_of arm (entries_of (block_in t k)) (tree_of (structure_of t) (strings_of t))
-claims_by t arm NoTree = []
-claims_by t arm BadHeader = []
-claims_by t arm OverLimit = []
-claims_by t arm BadStructure = []
+abbrev pub claims_by : List ℕ → Bool → Result (Option Blocks) TreeFault → List Claim
+claims_by t arm (Ok (Some k)) = claims_of arm (entries_of (block_in t k)) (tree_of (structure_of t) (strings_of t))
+claims_by t arm (Ok None) = []
+claims_by t arm (Err f) = []
 
 unfoldable pub tree_claims : List ℕ → Bool → List Claim
 tree_claims t arm = claims_by t arm (opened_of t)
@@ -55,7 +50,3 @@ pair_claims o =
 -- all of them, in order
 unfoldable pub registrations : List ℕ → Order → List Claim
 registrations s o = claims (list_in s o) ++ (tree_claims (tree_in s o) o.arm ++ pair_claims o)
-
--- one registration more after a run, unless that was refused: the step by which the five pairs are registered
-unfoldable pub and_then : ℕ → Registered → Claim → Registered
-and_then p r c = cond (is_done r.answer) (registered p r.map c) r

@@ -1,21 +1,27 @@
 -- What is refused of an order file's sources, and with which number: document 01, "Numbers a caller gets back".
-use Rattle.dtb.specs.declared.TreeRefusal.TheVariants.{BadHeader as TreeHeader, OverLimit as TreeOver, BadStructure as TreeStructure, UnreadableReg as TreeReg, UnreadableRanges as TreeRanges, MapFull as TreeFull}
+use Rattle.numbers.specs.Number.{number_by}
+use Rattle.dtb.specs.declared.TreeRefusal.TheVariants as tree
 use Rattle.dtb.specs.declared.TreeRefusal.{TreeRefusal}
-use Rattle.std.specs.Prelude.{ℕ, Bool, cond, List, Result, Ok, Err}
+use Rattle.std.specs.Prelude.{ℕ, Bool, cond, List, Option, Some, None, Result, Ok, Err}
 use Rattle.memory.specs.declared.MemoryMap.{MemoryMap}
 use Rattle.memory.specs.declared.Registered.{Registered}
 use Rattle.memory.specs.Map.{blank}
 use Rattle.memory.specs.Run.{is_done, registered_all}
 use Rattle.bootloader.specs.List.{all_known}
-use Rattle.fdt.specs.declared.Opened.{Opened}
-use Rattle.fdt.specs.declared.Opened.TheVariants.{NoTree, Tree, BadHeader as NoHeader, OverLimit as Over, BadStructure as NoStructure}
+use Rattle.fdt.specs.declared.Blocks.{Blocks}
+use Rattle.fdt.specs.declared.TreeFault.{TreeFault}
+use Rattle.fdt.specs.declared.TreeFault.TheVariants as form
 use Rattle.fdt.specs.Header.{structure_of, strings_of}
 use Rattle.fdt.specs.Tree.{tree_of}
 use Rattle.fdt.specs.Opening.{opened_of}
-use Rattle.claims.specs.declared.Judged.{Judged}
-use Rattle.claims.specs.declared.Judged.TheVariants.{Sound, UnreadableReg as NoReg, UnreadableRanges as NoRanges}
+use Rattle.claims.specs.declared.ValueFault.{ValueFault}
+use Rattle.claims.specs.declared.ValueFault.TheVariants as value
 use Rattle.claims.specs.Judging.{judged_of}
+use Rattle.areas.specs.declared.AreasRefusal.{AreasRefusal}
+use Rattle.areas.specs.declared.AreasRefusal.TheVariants as build
 use Rattle.order.specs.declared.Order.{Order}
+use Rattle.order.specs.declared.OrderFault.{OrderFault}
+use Rattle.order.specs.declared.OrderFault.TheVariants.{BadOrder as NoOrder}
 use Rattle.startup.specs.declared.Refusal.{Refusal}
 use Rattle.startup.specs.declared.Refusal.TheVariants.{BadOrder, UnknownKind, BadHeader, OverLimit, BadStructure, UnreadableReg, UnreadableRanges, MapFull, TooManyAreas}
 use Rattle.startup.specs.declared.Sources.{Sources}
@@ -34,31 +40,51 @@ refusal_number TooManyAreas = 3
 
 -- "0 is done."
 abbrev pub verdict_number : Result Unit Refusal → ℕ
-verdict_number (Ok tt) = 0
-verdict_number (Err r) = refusal_number r
+verdict_number = number_by refusal_number
+
+-- the refusal that each is: a fault of the order file, that of the areas, a fault of a tree's form or of its values, one of the tree's call
+abbrev pub of_order : OrderFault → Refusal
+of_order NoOrder = BadOrder
+
+abbrev pub of_areas : AreasRefusal → Refusal
+of_areas build.TooManyAreas = TooManyAreas
+
+abbrev pub of_form : TreeFault → Refusal
+of_form form.BadHeader = BadHeader
+of_form form.OverLimit = OverLimit
+of_form form.BadStructure = BadStructure
+
+abbrev pub of_value : ValueFault → Refusal
+of_value value.UnreadableReg = UnreadableReg
+of_value value.UnreadableRanges = UnreadableRanges
+
+abbrev pub of_tree : TreeRefusal → Refusal
+of_tree tree.BadHeader = BadHeader
+of_tree tree.OverLimit = OverLimit
+of_tree tree.BadStructure = BadStructure
+of_tree tree.UnreadableReg = UnreadableReg
+of_tree tree.UnreadableRanges = UnreadableRanges
+of_tree tree.MapFull = MapFull
 
 -- "Checked in this order": what is checked first decides
 abbrev pub first_of : Result Unit Refusal → Result Unit Refusal → Result Unit Refusal
 first_of (Err r) next = Err r
-first_of (Ok tt) next = next
+first_of (Ok _) next = next
 
 -- 1: "a kind is none of the seven, size 0 included"
 unfoldable pub list_verdict : List ℕ → Result Unit Refusal
 list_verdict l = cond (all_known l) (Ok tt) (Err UnknownKind)
 
 -- 7, then 8
-abbrev pub judged_verdict : Judged → Result Unit Refusal
-judged_verdict Sound = Ok tt
-judged_verdict NoReg = Err UnreadableReg
-judged_verdict NoRanges = Err UnreadableRanges
+abbrev pub judged_verdict : Result Unit ValueFault → Result Unit Refusal
+judged_verdict (Ok _) = Ok tt
+judged_verdict (Err f) = Err (of_value f)
 
 -- 4, 6, 5, then 7 and 8. No map is asked: "The tree is judged before its first claim is registered."
-abbrev pub opened_verdict : List ℕ → Bool → Opened → Result Unit Refusal
-opened_verdict t arm NoTree = Ok tt
-opened_verdict t arm NoHeader = Err BadHeader
-opened_verdict t arm Over = Err OverLimit
-opened_verdict t arm NoStructure = Err BadStructure
-opened_verdict t arm (Tree k) = judged_verdict (judged_of arm (tree_of (structure_of t) (strings_of t)))
+abbrev pub opened_verdict : List ℕ → Bool → Result (Option Blocks) TreeFault → Result Unit Refusal
+opened_verdict t arm (Ok None) = Ok tt
+opened_verdict t arm (Err f) = Err (of_form f)
+opened_verdict t arm (Ok (Some k)) = judged_verdict (judged_of arm (tree_of (structure_of t) (strings_of t)))
 
 unfoldable pub tree_verdict : List ℕ → Bool → Result Unit Refusal
 tree_verdict t arm = opened_verdict t arm (opened_of t)
@@ -85,7 +111,7 @@ rejection r = sources blank (Err r)
 
 -- "A refused list, tree or build gives back the map as at its call": the empty one
 abbrev pub judged_sources : MemoryMap → Result Unit Refusal → Sources
-judged_sources m (Ok tt) = sources m (Ok tt)
+judged_sources m (Ok _) = sources m (Ok tt)
 judged_sources m (Err r) = rejection r
 
 unfoldable pub sources_of : ℕ → List ℕ → Order → Sources
@@ -93,13 +119,8 @@ sources_of p s o = judged_sources (run_of p s o).map (verdict_of p s o)
 
 -- ── The steps of the code ──
 abbrev pub tree_fault : Result Unit TreeRefusal → Result Unit Refusal
-tree_fault (Ok tt) = Ok tt
-tree_fault (Err TreeHeader) = Err BadHeader
-tree_fault (Err TreeOver) = Err OverLimit
-tree_fault (Err TreeStructure) = Err BadStructure
-tree_fault (Err TreeReg) = Err UnreadableReg
-tree_fault (Err TreeRanges) = Err UnreadableRanges
-tree_fault (Err TreeFull) = Err MapFull
+tree_fault (Ok _) = Ok tt
+tree_fault (Err r) = Err (of_tree r)
 
 unfoldable pub ended_sources : Registered → Sources
 ended_sources r = judged_sources r.map (map_verdict r)

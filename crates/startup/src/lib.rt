@@ -3,20 +3,20 @@
 #![tactic(auto)]
 
 ghost use Rattle.std.specs.Prelude.{◌≡◌};
-ghost use Rattle.memory.specs.Map.{map_of, left};
 ghost use Rattle.memory.specs.Made.{Made};
 ghost use Rattle.memory.specs.Run.{registered_all};
-ghost use Rattle.startup.specs.Sources.{pair_claim, pair_claims, and_then};
-ghost use Rattle.startup.specs.Verdict.{refusal_number, verdict_number, tree_fault, rejection, sources_of, ended_sources};
-ghost use Rattle.startup.specs.Report.{report_number, Finishes, Reports};
+ghost use Rattle.startup.specs.Sources.{pair_claim, pair_claims};
+ghost use Rattle.startup.specs.Verdict.{refusal_number, of_order, of_areas, of_tree, rejection, sources_of, ended_sources};
+ghost use Rattle.startup.specs.Report.{Finishes, Reports};
 ghost use Rattle.startup.specs.Start.{not_started, StartFinishes, Starts};
 
-use areas::{Built, Limit};
+use areas::AreasRefusal;
 use cells::Region;
-use dtb::TreeAnswer;
-use entry::BootloaderMemoryKind;
-use memory::{Admitted, Answer, MemoryMap};
-use order::{Order, OrderRead};
+use dtb::TreeRefusal;
+use entry::{BootloaderMemoryKind, Claim};
+use memory::MemoryMap;
+use numbers::Numbered;
+use order::{Order, OrderFault};
 use sheet::PageSheet;
 
 // Why an order file is refused, in the order in which this is checked. Each case has its number in document 01.
@@ -33,10 +33,10 @@ pub enum Refusal {
     TooManyAreas,
 }
 
-impl Refusal {
-    pub fn number(self) -> u8
-        ensures { result ≡ refusal_number self }
-    {
+impl Numbered for Refusal {
+    ghost number_of = { refusal_number };
+
+    fn number(self) -> u8 {
         match self {
             Refusal::BadOrder => 9,
             Refusal::UnknownKind => 1,
@@ -51,19 +51,37 @@ impl Refusal {
     }
 }
 
-#[derive(Clone, Copy)]
-pub enum Verdict {
-    Accepted,
-    Rejected(Refusal),
+impl From<OrderFault> for Refusal {
+    ghost from_gives = { λ fault refusal. refusal ≡ of_order fault };
+
+    fn from(fault: OrderFault) -> Refusal {
+        match fault {
+            OrderFault::BadOrder => Refusal::BadOrder,
+        }
+    }
 }
 
-impl Verdict {
-    pub fn number(self) -> u8
-        ensures { result ≡ verdict_number self }
-    {
-        match self {
-            Verdict::Accepted => 0,
-            Verdict::Rejected(refusal) => refusal.number(),
+impl From<TreeRefusal> for Refusal {
+    ghost from_gives = { λ tree refusal. refusal ≡ of_tree tree };
+
+    fn from(tree: TreeRefusal) -> Refusal {
+        match tree {
+            TreeRefusal::BadHeader => Refusal::BadHeader,
+            TreeRefusal::OverLimit => Refusal::OverLimit,
+            TreeRefusal::BadStructure => Refusal::BadStructure,
+            TreeRefusal::UnreadableReg => Refusal::UnreadableReg,
+            TreeRefusal::UnreadableRanges => Refusal::UnreadableRanges,
+            TreeRefusal::MapFull => Refusal::MapFull,
+        }
+    }
+}
+
+impl From<AreasRefusal> for Refusal {
+    ghost from_gives = { λ areas refusal. refusal ≡ of_areas areas };
+
+    fn from(areas: AreasRefusal) -> Refusal {
+        match areas {
+            AreasRefusal::TooManyAreas => Refusal::TooManyAreas,
         }
     }
 }
@@ -73,90 +91,46 @@ impl Verdict {
 #[derive(Clone, Copy)]
 pub struct Sources {
     pub map: MemoryMap,
-    pub verdict: Verdict,
+    pub verdict: Result<(), Refusal>,
 }
 
-// What the whole build answers: how many areas were written, with their page sheet; or a refusal, and nothing was.
+// What the whole build did: how many areas were written, with their page sheet.
 #[derive(Clone, Copy)]
-pub enum Report {
-    Done(usize, PageSheet),
-    Refused(Refusal),
+pub struct Summary {
+    pub count: usize,
+    pub sheet: PageSheet,
 }
 
-impl Report {
-    pub fn number(self) -> u8
-        ensures { result ≡ report_number self }
-    {
-        match self {
-            Report::Done(_, _) => 0,
-            Report::Refused(refusal) => refusal.number(),
-        }
-    }
-}
-
-// The map with all registrations of an order file beside what the build answers, or the empty map beside a refusal.
+// The map with all registrations of an order file beside what the build answers, or the empty map beside a refusal, which wrote nothing.
 #[derive(Clone, Copy)]
 pub struct Start {
     pub map: MemoryMap,
-    pub report: Report,
+    pub report: Result<Summary, Refusal>,
 }
 
-// Registers one more range in place, where none was refused before it.
-fn then_register(
-    starts: &mut [u64; 512],
-    ends: &mut [u64; 512],
-    kinds: &mut [u64; 512],
-    before: Admitted,
-    pair: Region,
-    kind: BootloaderMemoryKind,
-) -> Admitted
-    requires { Made 4096 (map_of starts.old ends.old kinds.old before.size) }
-    ensures { left result starts.new ends.new kinds.new ≡ and_then 4096 (left before starts.old ends.old kinds.old) (pair_claim kind pair) }
+// One of the five pairs, as a claim of its kind.
+fn pair_claim(kind: BootloaderMemoryKind, pair: Region) -> Claim
+    ensures { result ≡ pair_claim kind pair }
 {
-    let answer = before.answer;
-    let Answer::Done = answer else {
-        return before;
-    };
-    memory::register_in(
-        starts,
-        ends,
-        kinds,
-        before.size,
-        pair.address,
-        pair.size,
-        kind.number(),
-    )
+    Claim {
+        base: pair.address,
+        size: pair.size,
+        kind: kind.number(),
+    }
 }
 
-// Registers the five pairs of an order file in place, until one is refused. What it had registered stays then, so this is a step of the
-// call below and no call of its own.
-fn register_pairs_in(
-    starts: &mut [u64; 512],
-    ends: &mut [u64; 512],
-    kinds: &mut [u64; 512],
-    size: usize,
-    order: Order,
-) -> Admitted
-    requires { Made 4096 (map_of starts.old ends.old kinds.old size) }
-    ensures { left result starts.new ends.new kinds.new ≡ registered_all 4096 (map_of starts.old ends.old kinds.old size) (pair_claims order) }
+// The claims of the five pairs of an order file, in their order.
+fn pair_claims(order: Order) -> [Claim; 5]
+    ensures { result ≡ pair_claims order }
 {
-    let none = Admitted {
-        size,
-        answer: Answer::Done,
-    };
     let map = BootloaderMemoryKind::IdentityMap;
-    let a = then_register(
-        starts,
-        ends,
-        kinds,
-        none,
-        order.kernel,
-        BootloaderMemoryKind::Kernel,
-    );
-    let b = then_register(starts, ends, kinds, a, order.env, map);
-    let c = then_register(starts, ends, kinds, b, order.hwdesc, map);
-    let d = then_register(starts, ends, kinds, c, order.bootstrap, map);
-    then_register(starts, ends, kinds, d, order.stack, map)
+    [
+        pair_claim(BootloaderMemoryKind::Kernel, order.kernel),
+        pair_claim(map, order.env),
+        pair_claim(map, order.hwdesc),
+        pair_claim(map, order.bootstrap),
+        pair_claim(map, order.stack),
+    ]
 }
 
 // The empty map beside a refusal.
@@ -165,47 +139,21 @@ fn rejected(refusal: Refusal) -> Sources
 {
     Sources {
         map: MemoryMap::empty(),
-        verdict: Verdict::Rejected(refusal),
+        verdict: Err(refusal),
     }
 }
 
 // The last of the sources: the five pairs.
-fn register_pairs(map: MemoryMap, order: Order) -> Sources
+fn register_pairs(mut map: MemoryMap, order: Order) -> Sources
     requires { Made 4096 map }
     ensures { result ≡ ended_sources (registered_all 4096 map (pair_claims order)) }
 {
-    let mut starts = map.starts;
-    let mut ends = map.ends;
-    let mut kinds = map.kinds;
-    let held = map.size;
-    let r = register_pairs_in(&mut starts, &mut ends, &mut kinds, held, order);
-    let answer = r.answer;
-    let Answer::Done = answer else {
+    let Ok(()) = map.register_all(&pair_claims(order)) else {
         return rejected(Refusal::MapFull);
     };
     Sources {
-        map: MemoryMap {
-            starts,
-            ends,
-            kinds,
-            size: r.size,
-        },
-        verdict: Verdict::Accepted,
-    }
-}
-
-// What a tree's answer says of the order file that it came in.
-fn tree_verdict(answer: TreeAnswer) -> Verdict
-    ensures { result ≡ tree_fault answer }
-{
-    match answer {
-        TreeAnswer::Done => Verdict::Accepted,
-        TreeAnswer::BadHeader => Verdict::Rejected(Refusal::BadHeader),
-        TreeAnswer::OverLimit => Verdict::Rejected(Refusal::OverLimit),
-        TreeAnswer::BadStructure => Verdict::Rejected(Refusal::BadStructure),
-        TreeAnswer::UnreadableReg => Verdict::Rejected(Refusal::UnreadableReg),
-        TreeAnswer::UnreadableRanges => Verdict::Rejected(Refusal::UnreadableRanges),
-        TreeAnswer::MapFull => Verdict::Rejected(Refusal::MapFull),
+        map,
+        verdict: Ok(()),
     }
 }
 
@@ -214,41 +162,39 @@ fn tree_verdict(answer: TreeAnswer) -> Verdict
 pub fn register_memory_from_kernel_args(file: &[u8], order: Order) -> Sources
     ensures { result ≡ sources_of 4096 file.now order }
 {
-    let l = order.list;
-    let t = order.tree;
-    let list = words::part(file, l.at, l.len);
-    let tree = words::part(file, t.at, t.len);
+    let list = words::part(file, order.list.at, order.list.len);
+    let tree = words::part(file, order.tree.at, order.tree.len);
     let listed = bootloader::register_bootloader_areas(MemoryMap::empty(), list);
-    let first = listed.answer;
-    if first.number() == 1 {
+    if listed.answer.number() == 1 {
         return rejected(Refusal::UnknownKind);
     }
     let treed = dtb::register_devicetree(listed.map, tree, order.arm);
-    let second = treed.answer;
-    match tree_verdict(second) {
-        Verdict::Rejected(refusal) => rejected(refusal),
-        Verdict::Accepted => {
-            let Answer::Done = first else {
-                return rejected(Refusal::MapFull);
-            };
-            register_pairs(treed.map, order)
-        }
+    if let Err(refusal) = treed.answer {
+        return rejected(Refusal::from(refusal));
     }
+    let Ok(()) = listed.answer else {
+        return rejected(Refusal::MapFull); // of the list
+    };
+    register_pairs(treed.map, order)
 }
 
 // The finished areas of a map with their page sheet.
-fn finish(map: MemoryMap, low: Limit, high: Limit, slots: &mut [u64]) -> Report
+fn finish(
+    map: MemoryMap,
+    low: Option<u64>,
+    high: Option<u64>,
+    slots: &mut [u64],
+) -> Result<Summary, Refusal>
     requires { Made 4096 map }
     ensures { Finishes 4096 map low high slots.old slots.new result }
 {
-    match areas::build(map, low, high, slots) {
-        Built::TooManyAreas => Report::Refused(Refusal::TooManyAreas),
-        Built::Done(n) => {
-            let free = sheet::free_pages(map, low, high);
-            let usable = sheet::usable_pages(slots, n);
-            Report::Done(n, sheet::page_sheet(free, usable))
-        }
-    }
+    let count = areas::build(map, low, high, slots)?;
+    let free = sheet::free_pages(map, low, high);
+    let usable = sheet::usable_pages(slots, count);
+    Ok(Summary {
+        count,
+        sheet: sheet::page_sheet(free, usable),
+    })
 }
 
 // The empty map beside a refusal, that of the areas too.
@@ -257,19 +203,26 @@ fn not_started(refusal: Refusal) -> Start
 {
     Start {
         map: MemoryMap::empty(),
-        report: Report::Refused(refusal),
+        report: Err(refusal),
     }
 }
 
 // The map beside its finished areas, or the empty one where they are refused.
-fn start_finished(map: MemoryMap, low: Limit, high: Limit, slots: &mut [u64]) -> Start
+fn start_finished(
+    map: MemoryMap,
+    low: Option<u64>,
+    high: Option<u64>,
+    slots: &mut [u64],
+) -> Start
     requires { Made 4096 map }
     ensures { StartFinishes 4096 map low high slots.old slots.new result }
 {
-    let report = finish(map, low, high, slots);
-    match report {
-        Report::Refused(refusal) => not_started(refusal),
-        Report::Done(_, _) => Start { map, report },
+    match finish(map, low, high, slots) {
+        Ok(summary) => Start {
+            map,
+            report: Ok(summary),
+        },
+        Err(refusal) => not_started(refusal),
     }
 }
 
@@ -279,24 +232,20 @@ pub fn init_map(file: &[u8], slots: &mut [u64]) -> Start
     ensures { Starts 4096 file.now slots.old slots.new result }
 {
     match order::read_order(file) {
-        OrderRead::BadOrder => not_started(Refusal::BadOrder),
-        OrderRead::Layout(order) => {
-            let low = order.low;
-            let high = order.high;
+        Err(fault) => not_started(Refusal::from(fault)),
+        Ok(order) => {
             let sources = register_memory_from_kernel_args(file, order);
-            let verdict = sources.verdict;
-            match verdict {
-                Verdict::Rejected(refusal) => not_started(refusal),
-                Verdict::Accepted => start_finished(sources.map, low, high, slots),
+            match sources.verdict {
+                Err(refusal) => not_started(refusal),
+                Ok(()) => start_finished(sources.map, order.low, order.high, slots),
             }
         }
     }
 }
 
 // The same without the map.
-pub fn init(file: &[u8], slots: &mut [u64]) -> Report
+pub fn init(file: &[u8], slots: &mut [u64]) -> Result<Summary, Refusal>
     ensures { Reports 4096 file.now slots.old slots.new result }
 {
-    let start = init_map(file, slots);
-    start.report
+    init_map(file, slots).report
 }

@@ -1,21 +1,21 @@
--- `register_pairs` registers on a copy, and hands back the empty map where that is refused.
-use mathlib.Core.Path.{ap, ◌∙◌}
+-- `register_pairs` hands back the empty map where a pair is refused.
+use mathlib.Core.Path.{◌≡◌, ap, sym, ◌∙◌}
 use Rattle.memory.specs.declared.Registered.{Registered}
-use Rattle.memory.specs.Map.{left}
-use Rattle.memory.specs.Run.{is_done}
+use Rattle.memory.specs.Map.{answered}
+use Rattle.memory.specs.Run.{is_done, registered_all}
 use Rattle.memory.proofs.Refusing.{refused}
+use Rattle.startup.specs.Sources.{pair_claims}
 use Rattle.startup.proofs.SourceLaws.{ended_done, ended_refused}
 use Rattle.startup.proofs.register_pairs.Goals as goal
 
 pub returns-in_default : goal.returns-in_default
 returns-in_default c =
-    let m = c in
-    let g = m.register_pairs_in-r in
-    let r : Registered = left g.result g.new.starts g.new.ends g.new.kinds in
-    rw (← g.ensures) (c.rejected.ensures ∙ ended_refused r (refused g.result.answer m.in_default.not-Done))
+    let r : Registered = answered c.register_all.new.self c.register_all.result in
+    let is : r ≡ registered_all 4096 c.args.map (pair_claims c.args.order) = rw c.pair_claims.ensures at c.register_all.ensures in
+    rw (← is) (c.rejected.ensures ∙ ended_refused r (refused c.register_all.result c.in_default.not-Ok))
 
 pub returns : goal.returns
 returns c =
-    let g = c.register_pairs_in-r in
-    let r : Registered = left g.result g.new.starts g.new.ends g.new.kinds in
-    rw (← g.ensures) (ended_done r (ap is_done c.in-Done.is))
+    let r : Registered = answered c.register_all.new.self c.register_all.result in
+    let is : r ≡ registered_all 4096 c.args.map (pair_claims c.args.order) = rw c.pair_claims.ensures at c.register_all.ensures in
+    rw (← is) (ended_done r (ap is_done c.in-Ok.is))
