@@ -87,9 +87,9 @@ slid l m to from end z down some room same copied zeros a c d g la lg lc e =
     drop-drop k (to + (end - from)) l ∙ ap (λ (j : ℕ). drop j l) (omega arith) ∙ sym (drop-drop (length c) from l)
     ∙ ap (λ (x : List ℕ). drop (length c) x) behind ∙ drop_at c d (length c) refl in
     let size : length (mid_of s k m) ≡ g = part_length m s end (omega arith) (omega arith) ∙ gap in
-    put_part m (a ++ c) rest d z s k at put last
-    ∙ ap (λ (x : List ℕ). (a ++ c) ++ (x ++ d)) (zeros ∙ ap (λ (j : ℕ). replicate j 0) size)
-    ∙ append_assoc a c (replicate g 0 ++ d)
+    let zero : z ≡ replicate g 0 = zeros ∙ ap (λ (j : ℕ). replicate j 0) size in
+    let placed : put_mid s k m z ≡ (a ++ c) ++ (z ++ d) = put_part m (a ++ c) rest d z s k at put last in
+    placed ∙ ap (λ (x : List ℕ). (a ++ c) ++ (x ++ d)) zero ∙ append_assoc a c (replicate g 0 ++ d)
 
 pub slid_none : (l : List ℕ) (to from end : ℕ) → end ≤ from → Slid l to from end l
 unfolding Slid

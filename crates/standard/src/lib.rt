@@ -73,6 +73,7 @@ pub fn read_all<R: Read, E: Eprint>(input: &mut R, told: &E, space: &mut [u8]) -
     ensures bytes { ReadsAll (R.remaining input.old) (R.remaining input.new) space.new result }
 {
     let mut have: usize = 0;
+    // A `while`: a read gives as many bytes as it likes, so no `for` counts them. The library's `read_to_end` fills a `Vec`, and there is no heap.
     while have < space.len() {
         let Input::Held(more) = read_some(input, told, &mut space[have..]) else {
             return Input::Failed;

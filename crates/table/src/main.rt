@@ -18,15 +18,10 @@ fn print_refusal<P: Print>(out: &P, number: u8) -> io::Result<()> {
 // One line for each of the first n areas.
 fn print_areas<P: Print>(out: &P, slots: &[u64], n: usize) -> io::Result<()> {
     println!(out; "areas {n}")?;
-    let mut i: usize = 0;
-    while i + 1 < slots.len() {
-        if n <= i / 2 {
-            return Ok(());
-        }
-        let base = slots[i];
-        let size = slots[i + 1];
+    for slot in slots.chunks_exact(2).take(n) {
+        let base = slot[0];
+        let size = slot[1];
         println!(out; "{base:016x} {size:016x}")?;
-        i += 2;
     }
     Ok(())
 }

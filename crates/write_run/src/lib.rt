@@ -181,6 +181,7 @@ pub fn write_calls(calls: &[u8], out: &mut [u8]) -> WriteRun
     let mut size: usize = 0;
     let mut index: usize = 0;
     let mut at: usize = 0;
+    // A `while`: calls are of varying length, and the reading of each tells where the next begins.
     while at < calls.len() {
         let read = read_call(calls, at);
         let call = read.call;
