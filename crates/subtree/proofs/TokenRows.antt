@@ -119,7 +119,7 @@ module _ (b n : List ℕ) where
   lex_few (suc f) p m =
       rw (lex_at_lem b n p) (taken_few (suc f) p (length b) (tok_at b n p) (ahead b n p) (λ q x y. lex_few f q (omega arith)))
 
-  -- the tokens past the end of a node are again those from Some place on
+  -- the tokens past the end of a node are again those from some place on
   pub skip_read : (ts : List Tok) (d p : ℕ) → lex_at b n p ≡ ts → (r : ℕ) × (lex_at b n r ≡ skip_t ts d)
   skip_read [] d p e = (p, e)
   skip_read (begin q nm ∷ ts) d p e = let a = node_at_lem b n p e in skip_read ts (suc d) a.next (sym a.tokens)
