@@ -8,10 +8,10 @@ use mathlib.Core.Logic.{◌↔◌}
 use lib.ListN.{length, get_or}
 use lib.Dec.{ltb}
 use borrow.Author.Tests.{lt-ltb, le-ltb, ltb-true, ltb-false}
+use Rattle.std.specs.Prelude.{Some, None}
 use Rattle.words.specs.Bytes.{string_end}
 use Rattle.words.proofs.BytesLaws.{never, first_before, first_is, first_only}
 use Rattle.cells.specs.Text.{text_of}
-use Rattle.std.specs.Prelude.{Some, None}
 
 module _ (v : List ℕ) where
   pub text_in : string_end v 0 < length v → text_of v ≡ Some (string_end v 0)

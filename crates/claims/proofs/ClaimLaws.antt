@@ -7,6 +7,7 @@ use mathlib.Core.Bool.{Bool, true, false, cond, ◌&&◌}
 use lib.ListN.{length}
 use lib.Dec.{eqb, leb, ltb}
 use borrow.Author.Tests.{le-leb, lt-leb}
+use Rattle.std.specs.Prelude.{Option, Some, None}
 use Rattle.words.specs.Bytes.{part_of}
 use Rattle.words.proofs.BytesLaws.{never}
 use Rattle.cells.specs.declared.CellCount.{CellCount}
@@ -15,6 +16,7 @@ use Rattle.cells.specs.declared.Region.{Region}
 use Rattle.cells.specs.Count.{size_width}
 use Rattle.cells.specs.Rows.{Table, unreadable, rows, number_at, reg_of}
 use Rattle.cells.proofs.RowsLaws.{reg_none}
+use Rattle.fdt.specs.declared.Block.{Block}
 use Rattle.nodes.specs.Nav.{prop_at}
 use Rattle.nodes.specs.Path.{path_at}
 use Rattle.reading.specs.Values.{value_of, held}
@@ -33,8 +35,6 @@ use Rattle.claims.specs.declared.Way.{Way}
 use Rattle.claims.specs.declared.Way.TheVariants.{Reserve, Soc, Controllers}
 use Rattle.claims.specs.Claims.{entries, entries_in, the_one, dynamic, fixed_or, child_regions, lands_by, is_virt}
 use Rattle.claims.specs.Values.{where_one, dynamic_at, or_value, child_value}
-use Rattle.std.specs.Prelude.{Option, Some, None}
-use Rattle.fdt.specs.declared.Block.{Block}
 
 -- ── A region of the root's child ──
 module _ (a n : ℕ) where

@@ -4,6 +4,7 @@ use Prim.Native.Nat.{ℕ, ◌<◌}
 use native.Mathlib.Omega.{arith}
 use mathlib.Core.List.{List, [], ◌∷◌}
 use mathlib.Core.Bool.{Bool, true, false, cond, ◌&&◌, ◌||◌}
+use Rattle.std.specs.Prelude.{Ok, Err, Option, Some, None}
 use Rattle.words.specs.Bytes.{part_of}
 use Rattle.words.proofs.BytesLaws.{never}
 use Rattle.cells.specs.declared.CellCount.{CellCount}
@@ -16,6 +17,7 @@ use Rattle.cells.specs.declared.RangeRow.{RangeRow}
 use Rattle.cells.specs.declared.RangeRow.TheVariants.{NoRange, PastRange, RangeAt}
 use Rattle.cells.specs.Rows.{Table, unreadable, rows, reg_of, ranges_of, reg_row, range_row}
 use Rattle.fdt.specs.Tree.{Nodes, none, node, count}
+use Rattle.fdt.specs.declared.Block.{Block}
 use Rattle.nodes.specs.Nav.{first_at, next_at, prop_at, child_at}
 use Rattle.nodes.specs.Path.{path_at}
 use Rattle.nodes.specs.Cells.{address_cells, size_cells, count_at}
@@ -29,10 +31,8 @@ use Rattle.translation.specs.Translation.{address_of, size_of}
 use Rattle.reserved.specs.Reserved.{available, stated_alike, children_count}
 use Rattle.claims.specs.Claims.{is_virt}
 use Rattle.claims.specs.Judging.{is_unreadable, has_entry, child_is, some_kid, bad_reg, bad_ranges, judged_of}
-use Rattle.claims.proofs.ClaimLaws.{root_is}
-use Rattle.std.specs.Prelude.{Ok, Err, Option, Some, None}
-use Rattle.fdt.specs.declared.Block.{Block}
 use Rattle.claims.specs.declared.ValueFault.TheVariants.{UnreadableReg, UnreadableRanges}
+use Rattle.claims.proofs.ClaimLaws.{root_is}
 
 -- ── A table by its first row ──
 abbrev pub no_reg : RegRow → Bool

@@ -3,6 +3,8 @@
 use Rattle.std.specs.Prelude.{ℕ, List, cond, Option, Some, None}
 use Rattle.words.specs.Bytes.{part_of}
 use Rattle.cells.specs.declared.CellCount.{CellCount}
+use Rattle.cells.specs.declared.Region.{Region}
+use Rattle.fdt.specs.declared.Block.{Block}
 use Rattle.nodes.specs.Nav.{prop_at}
 use Rattle.reading.specs.Values.{value_of}
 use Rattle.subtree.specs.Names.{reg_name, size_name, alloc_ranges_name, interrupt_controller_name}
@@ -11,8 +13,6 @@ use Rattle.reserved.specs.Reserved.{available, exact_of}
 use Rattle.stdout.specs.Stdout.{is_there}
 use Rattle.claims.specs.declared.Way.{Way}
 use Rattle.claims.specs.declared.Way.TheVariants.{Reserve, Soc, Controllers}
-use Rattle.fdt.specs.declared.Block.{Block}
-use Rattle.cells.specs.declared.Region.{Region}
 
 abbrev pub where_one : Option Region → Option Block → Option Block
 where_one (Some r) v = v

@@ -162,7 +162,10 @@ pub fn is_qemu_virt<'a>(structure: &'a [u8], strings: &'a [u8], arm: bool) -> bo
     let Some(model) = text::string_of(structure, strings, root, b"model") else {
         return false;
     };
-    text::holds(words::part(structure, model.at, model.len), b"linux,dummy-virt")
+    text::holds(
+        words::part(structure, model.at, model.len),
+        b"linux,dummy-virt",
+    )
 }
 
 // Whether a child is what some_child looks for.
@@ -248,7 +251,13 @@ fn bad_ranges<'a>(structure: &'a [u8], strings: &'a [u8], root: usize) -> bool
     let own = nodes::address_cells(structure, strings, soc);
     let parent = nodes::address_cells(structure, strings, root);
     let length = nodes::size_cells(structure, strings, soc);
-    match cells::range_row(words::part(structure, ranges.at, ranges.len), own, parent, length, 0) {
+    match cells::range_row(
+        words::part(structure, ranges.at, ranges.len),
+        own,
+        parent,
+        length,
+        0,
+    ) {
         RangeRow::NoRange => {
             let first = nodes::first_subnode(structure, strings, soc);
             some_child(structure, strings, first, own, length, false)

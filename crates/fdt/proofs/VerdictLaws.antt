@@ -5,12 +5,12 @@ use mathlib.Core.List.{List}
 use mathlib.Core.Bool.{true, false}
 use lib.ListN.{length}
 use borrow.Author.Tests.{eq-eqb, ne_eqb, le-leb, lt-leb}
+use Rattle.std.specs.Prelude.{None, Result, Ok, Err}
 use Rattle.words.specs.Bytes.{part_of}
 use Rattle.fdt.specs.Header.{totalsize, good_header, structure_of, strings_of}
 use Rattle.fdt.specs.Walk.{walked}
 use Rattle.fdt.specs.Opening.{blocks_of, judged, opened_of}
 use Rattle.fdt.specs.declared.Blocks.{Blocks}
-use Rattle.std.specs.Prelude.{None, Result, Ok, Err}
 use Rattle.fdt.specs.declared.TreeFault.{TreeFault}
 use Rattle.fdt.specs.declared.TreeFault.TheVariants.{BadHeader, OverLimit}
 

@@ -5,6 +5,7 @@ use native.Mathlib.Omega.{arith}
 use mathlib.Core.List.{List}
 use lib.ListN.{length}
 use lib.Dec.{leb, eqb}
+use Rattle.std.specs.Prelude.{Result}
 use Rattle.fdt.specs.Token.{tok_at}
 use Rattle.fdt.specs.Walk.{begin_step, step_of, walk_at}
 use Rattle.fdt.specs.declared.Token.{Token}
@@ -13,9 +14,8 @@ use Rattle.fdt.specs.declared.State.{State}
 use Rattle.fdt.specs.declared.Step.{Step}
 use Rattle.fdt.specs.declared.Step.TheVariants.{Go, Stop}
 use Rattle.words.proofs.BytesLaws.{cond_elim}
-use Rattle.fdt.proofs.TokLaws.{Ahead, ahead}
-use Rattle.std.specs.Prelude.{Result}
 use Rattle.fdt.specs.declared.TreeFault.{TreeFault}
+use Rattle.fdt.proofs.TokLaws.{Ahead, ahead}
 
 -- the state after a step from p stands past it
 abbrev Moves : ℕ → ℕ → Step → Type 0

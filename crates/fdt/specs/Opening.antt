@@ -3,8 +3,8 @@ use Rattle.numbers.specs.Number.{number_by}
 use Rattle.std.specs.Prelude.{ℕ, List, cond, length, leb, eqb, Option, Some, None, Result, Ok, Err}
 use Rattle.fdt.specs.Header.{totalsize, off_dt_struct, off_dt_strings, off_mem_rsvmap, size_dt_struct, size_dt_strings, good_header, structure_of, strings_of}
 use Rattle.fdt.specs.Walk.{walked}
-use Rattle.fdt.specs.declared.Block.{Block}
 use Rattle.fdt.specs.declared.Blocks.{Blocks}
+use Rattle.fdt.specs.declared.Block.{Block}
 use Rattle.fdt.specs.declared.TreeFault.{TreeFault}
 use Rattle.fdt.specs.declared.TreeFault.TheVariants.{BadHeader, OverLimit, BadStructure}
 

@@ -7,6 +7,7 @@ use native.Mathlib.Omega.{arith}
 use mathlib.Core.List.{List, [], ◌∷◌, ◌++◌, append_assoc, append-nil}
 use mathlib.Core.Bool.{Bool, true, false}
 use lib.ListN.{length}
+use Rattle.std.specs.Prelude.{Result, Ok, Err}
 use Rattle.words.specs.Bytes.{bytes}
 use Rattle.fdt.specs.Token.{tok_at}
 use Rattle.fdt.specs.Tree.{Property, Nodes, Tok, begin, ended, fin, bad, taken, lex_at}
@@ -15,15 +16,14 @@ use Rattle.fdt.specs.Grammar.{Nops, no_nop, a_nop, Props, no_prop, a_prop, Kids,
 use Rattle.fdt.specs.declared.Token.{Token}
 use Rattle.fdt.specs.declared.Token.TheVariants.{Bad, Nop, Begin, EndNode, Prop, Fin}
 use Rattle.words.proofs.BytesLaws.{bytes_long}
+use Rattle.fdt.specs.declared.TreeFault.{TreeFault}
+use Rattle.fdt.specs.declared.TreeFault.TheVariants.{BadHeader, OverLimit, BadStructure}
 use Rattle.fdt.proofs.TokLaws.{ahead_of, reach_of}
 use Rattle.fdt.proofs.LexLaws.{lex_of}
 use Rattle.grammar.specs.Faults.{Begins, BeginsWithin, Upto, start, past_nop, past_begin, past_end, past_prop, begun, closed, here, Whole, Faulty, Exceeds, Counted, ChildLast, Wrong, Named}
 use Rattle.grammar.proofs.TreeLaws.{run_l, run_t, walked_run}
 use Rattle.grammar.proofs.GrammarLaws.{tokens_are, block_of, accepted_exactly, one_block}
 use Rattle.grammar.proofs.TurnLaws.{Sane, Why, AtLimit, Turn, goes, breaks, exceeds, begin_raised, begin_over, turn_begin, turn_end, turn_prop, fin_way, refused, as_given, Comes, come_next, come_within, come_whole, come_none, come_over, come_fits, comes_first, begins_less, within_less, comparable, shorter, end_form}
-use Rattle.std.specs.Prelude.{Result, Ok, Err}
-use Rattle.fdt.specs.declared.TreeFault.{TreeFault}
-use Rattle.fdt.specs.declared.TreeFault.TheVariants.{BadHeader, OverLimit, BadStructure}
 
 module _ (b n : List ℕ) where
   abbrev L : ℕ → List Tok

@@ -7,6 +7,7 @@ use native.Mathlib.Omega.{arith}
 use mathlib.Core.List.{List, [], ◌∷◌}
 use mathlib.Core.Bool.{false}
 use lib.ListN.{length}
+use Rattle.std.specs.Prelude.{Ok}
 use Rattle.words.specs.Bytes.{bytes}
 use Rattle.fdt.specs.Token.{tok_at}
 use Rattle.fdt.specs.Tree.{Property, Nodes, none, node, Tok, begin, ended, prop, fin, flat_p, flat_k, taken, lex_at, levels, top, tree_of}
@@ -19,7 +20,6 @@ use Rattle.fdt.proofs.TokLaws.{ahead_of}
 use Rattle.fdt.proofs.LexLaws.{lex_of}
 use Rattle.grammar.specs.Written.{Written}
 use Rattle.grammar.proofs.TreeLaws.{run_t, walked_run, accepted_tree, tree_accepted, levels_tree}
-use Rattle.std.specs.Prelude.{Ok}
 
 abbrev NotNop : Token → Type 0
 NotNop Bad = Unit {0}

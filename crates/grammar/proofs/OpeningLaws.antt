@@ -10,6 +10,7 @@ use mathlib.Core.Bool.{Bool, true, false, cond}
 use lib.ListN.{length}
 use lib.Dec.{leb, eqb}
 use borrow.Author.Tests.{eqb-true, eqb-false, leb-true, leb-false}
+use Rattle.std.specs.Prelude.{Option, Some, None, Result, Ok, Err}
 use Rattle.numbers.specs.Number.{Names}
 use Rattle.numbers.proofs.Given.{given}
 use Rattle.fdt.specs.Header.{totalsize, GoodHeader, good_header, structure_of, strings_of}
@@ -19,15 +20,14 @@ use Rattle.fdt.specs.Grammar.{Block, Within}
 use Rattle.fdt.specs.Opening.{opened_number, blocks_of, judged, opened_of}
 use Rattle.fdt.specs.declared.Blocks.{Blocks}
 use Rattle.words.proofs.BytesLaws.{never, cond_elim}
+use Rattle.fdt.specs.declared.TreeFault.{TreeFault}
+use Rattle.fdt.specs.declared.TreeFault.TheVariants.{BadHeader, OverLimit, BadStructure}
 use Rattle.fdt.proofs.HeaderLaws.{good_header_lem, bad_header}
 use Rattle.fdt.proofs.VerdictLaws.{says_none, says_header, says_large, says_walked}
 use Rattle.grammar.specs.Faults.{Begins, BeginsWithin, Upto, here}
 use Rattle.grammar.specs.Numbers.{HeaderBroken, OverLimits, StructureBroken, Opens}
 use Rattle.grammar.proofs.GrammarLaws.{accepted_exactly}
 use Rattle.grammar.proofs.FaultLaws.{no_header, broken_exactly, exceeds_exactly, grammar_over, no_grammar_broken}
-use Rattle.std.specs.Prelude.{Option, Some, None, Result, Ok, Err}
-use Rattle.fdt.specs.declared.TreeFault.{TreeFault}
-use Rattle.fdt.specs.declared.TreeFault.TheVariants.{BadHeader, OverLimit, BadStructure}
 
 -- 4, 5 and 6 name their cases
 opened_names : Names opened_number

@@ -9,6 +9,7 @@ use mathlib.Core.Bool.{Bool, true, false, cond}
 use lib.ListN.{length}
 use lib.Dec.{leb, eqb, eqb-suc-zero}
 use borrow.Author.Tests.{leb-false, eqb-true, lt-leb, ne_eqb}
+use Rattle.std.specs.Prelude.{Result, Ok, Err}
 use Rattle.fdt.specs.Token.{tok_at}
 use Rattle.fdt.specs.Tree.{Property, Nodes, none, node, Tok, begin, ended, prop, fin, bad, flat_p, flat_k, count, height, taken, lex, lex_at, Level, level, opened, added, levels}
 use Rattle.fdt.specs.Walk.{state, begin_step, step_of, after, walk_at, walked}
@@ -17,10 +18,9 @@ use Rattle.fdt.specs.declared.Token.TheVariants.{Bad, Nop, Begin, EndNode, Prop,
 use Rattle.fdt.specs.declared.State.{State}
 use Rattle.fdt.specs.declared.Step.{Step}
 use Rattle.words.proofs.BytesLaws.{never, bytes_long}
-use Rattle.fdt.proofs.TokLaws.{Reach, reach}
-use Rattle.std.specs.Prelude.{Result, Ok, Err}
 use Rattle.fdt.specs.declared.TreeFault.{TreeFault}
 use Rattle.fdt.specs.declared.TreeFault.TheVariants.{OverLimit, BadStructure}
+use Rattle.fdt.proofs.TokLaws.{Reach, reach}
 
 -- the walk on tokens that are read already, with at most lv levels and nd nodes
 unfoldable pub run_l : ℕ → ℕ → List Tok → ℕ → ℕ → Bool → Result Unit TreeFault

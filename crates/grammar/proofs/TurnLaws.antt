@@ -9,14 +9,14 @@ use mathlib.Core.Bool.{Bool, true, false, cond}
 use lib.ListN.{length}
 use lib.Dec.{leb, eqb}
 use borrow.Author.Tests.{leb-true, leb-false, eqb-true, eqb-false, le-leb, lt-leb, ne_eqb}
+use Rattle.std.specs.Prelude.{Ok, Err}
+use Rattle.std.specs.Prelude.{Result}
 use Rattle.fdt.specs.Tree.{Property, none, node, Tok, begin, ended, prop, fin, bad, flat_k, count, height}
 use Rattle.words.proofs.BytesLaws.{never}
-use Rattle.grammar.specs.Faults.{Begins, BeginsWithin, begun, closed, ChildLast}
-use Rattle.grammar.proofs.TreeLaws.{run_l, run_t, went_left, went_right, accepted_tree, tree_accepted}
-use Rattle.std.specs.Prelude.{Ok, Err}
 use Rattle.fdt.specs.declared.TreeFault.TheVariants.{OverLimit, BadStructure}
 use Rattle.fdt.specs.declared.TreeFault.{TreeFault}
-use Rattle.std.specs.Prelude.{Result}
+use Rattle.grammar.specs.Faults.{Begins, BeginsWithin, begun, closed, ChildLast}
+use Rattle.grammar.proofs.TreeLaws.{run_l, run_t, went_left, went_right, accepted_tree, tree_accepted}
 
 -- ── What a token does, whatever follows it and however much the limits are raised ──
 

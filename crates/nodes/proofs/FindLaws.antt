@@ -5,12 +5,12 @@ use native.Mathlib.Omega.{arith}
 use mathlib.Core.List.{List, [], ◌∷◌}
 use mathlib.Core.Bool.{Bool, true, false, cond}
 use lib.ListN.{length}
+use Rattle.std.specs.Prelude.{Option, Some, None}
 use Rattle.words.specs.Bytes.{bytes, part_of}
 use Rattle.words.proofs.BytesLaws.{part_cut}
 use Rattle.fdt.specs.Tree.{Tok, begin, ended, prop, fin, bad, lex_at}
 use Rattle.nodes.specs.declared.Kid.TheVariants.{Stuck}
 use Rattle.nodes.specs.Nav.{matches, first_kid, drop_p, skip_t, find_t, KidIs, NodeIs, EndIs, SkipsTo, ChildIs}
-use Rattle.std.specs.Prelude.{Option, Some, None}
 
 find_drop : (step : List ℕ) (ts : List Tok) (d : ℕ) → find_t step (drop_p ts) d ≡ find_t step ts d
 unfolding drop_p find_t

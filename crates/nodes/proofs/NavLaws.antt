@@ -7,20 +7,20 @@ use native.Mathlib.Omega.{arith}
 use mathlib.Core.List.{List, [], ◌∷◌}
 use mathlib.Core.Bool.{Bool, true, false, cond}
 use lib.ListN.{length}
+use Rattle.std.specs.Prelude.{Option, Some, None}
 use Rattle.words.specs.Bytes.{bytes, part_of}
 use Rattle.words.proofs.BytesLaws.{bytes_length}
 use Rattle.fdt.specs.declared.Token.{Token}
 use Rattle.fdt.specs.declared.Token.TheVariants.{Bad, Nop, Begin, EndNode, Prop, Fin}
 use Rattle.fdt.specs.Token.{tok_at}
 use Rattle.fdt.specs.Tree.{Tok, begin, ended, prop, fin, bad, taken, lex_at}
+use Rattle.fdt.specs.Opening.{block}
 use Rattle.fdt.proofs.TokLaws.{Reach}
 use Rattle.nodes.specs.declared.Kid.{Kid}
 use Rattle.nodes.specs.declared.Kid.TheVariants.{Node, End, Stuck}
 use Rattle.nodes.specs.Nav.{same_bytes, first_kid, drop_p, skip_t, lookup, KidIs, SkipsTo}
 use Rattle.nodes.proofs.SameLaws.{part_upto}
 use Rattle.nodes.proofs.TokenLaws.{read, reach}
-use Rattle.std.specs.Prelude.{Option, Some, None}
-use Rattle.fdt.specs.Opening.{block}
 
 -- ── Past the properties ──
 

@@ -7,13 +7,13 @@ use mathlib.Core.Bool.{cond}
 use lib.ListN.{length, get_or}
 use lib.Dec.{eqb, leb}
 use borrow.Author.Tests.{eq-eqb, ne_eqb, le-leb, lt-leb}
+use Rattle.std.specs.Prelude.{Option, Some, None}
 use Rattle.words.specs.Bytes.{bytes, first_byte, part_of}
 use Rattle.words.proofs.BytesLaws.{cond_elim, bytes_length}
 use Rattle.fdt.specs.Tree.{lex_at}
 use Rattle.nodes.specs.Nav.{inside, first_kid, child_at}
 use Rattle.nodes.specs.Path.{steps_from, go_from, path_at}
 use Rattle.nodes.proofs.SameLaws.{part_upto}
-use Rattle.std.specs.Prelude.{Option, Some, None}
 
 -- ── Before the first step ──
 module _ (b n path : List ℕ) where

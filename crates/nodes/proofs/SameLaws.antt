@@ -1,17 +1,14 @@
 -- Comparing two lists of bytes; a part by its two ends; and whether a name is a step of a path. Assumes nothing.
-use mathlib.Core.Path.{◌≡◌, refl, sym, ◌∙◌, ap}
-use Prim.Native.Nat.{ℕ, suc, ◌+◌, ◌-◌, ◌≤◌, ◌<◌}
+use mathlib.Core.Path.{◌≡◌, refl, ◌∙◌}
+use Prim.Native.Nat.{ℕ, ◌-◌, ◌≤◌}
 use native.Mathlib.Omega.{arith}
-use native.Mathlib.Numerals.{add-one}
 use mathlib.Core.List.{List, [], ◌∷◌}
 use mathlib.Core.Bool.{Bool, true, false, cond, ◌&&◌}
-use lib.ListN.{length, get_or, drop, drop_of_length-le}
-use lib.Seq.{drop-cons}
+use lib.ListN.{length}
 use lib.Dec.{eqb}
 use lib.Pointwise.{pointwise}
-use borrow.Author.Tests.{eq-eqb, ne_eqb}
 use Rattle.words.specs.Bytes.{bytes, first_byte, part_of}
-use Rattle.words.proofs.BytesLaws.{cond_elim, part_is, first_le}
+use Rattle.words.proofs.BytesLaws.{part_is, first_le}
 use Rattle.nodes.specs.Nav.{same_bytes, matches}
 
 -- the test of std, a byte at a time, is that of the contract

@@ -4,8 +4,8 @@ use Rattle.words.specs.Bytes.{part_of}
 use Rattle.cells.specs.declared.CellCount.{CellCount}
 use Rattle.cells.specs.declared.CellCount.TheVariants.{Absent}
 use Rattle.cells.specs.Count.{stated_by}
-use Rattle.nodes.specs.Nav.{prop_at}
 use Rattle.fdt.specs.declared.Block.{Block}
+use Rattle.nodes.specs.Nav.{prop_at}
 
 -- `#address-cells`
 abbrev pub address_cells : List ℕ

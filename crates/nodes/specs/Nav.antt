@@ -6,10 +6,10 @@ use Rattle.fdt.specs.declared.Token.{Token}
 use Rattle.fdt.specs.declared.Token.TheVariants.{Bad, Nop, Begin, EndNode, Prop, Fin}
 use Rattle.fdt.specs.Token.{tok_at}
 use Rattle.fdt.specs.Tree.{Tok, begin, ended, prop, fin, bad, lex_at}
-use Rattle.nodes.specs.declared.Kid.{Kid}
-use Rattle.nodes.specs.declared.Kid.TheVariants.{Node, End, Stuck}
 use Rattle.fdt.specs.declared.Block.{Block}
 use Rattle.fdt.specs.Opening.{block}
+use Rattle.nodes.specs.declared.Kid.{Kid}
+use Rattle.nodes.specs.declared.Kid.TheVariants.{Node, End, Stuck}
 
 -- ── Names ──
 unfoldable pub same_bytes : List ℕ → List ℕ → Bool

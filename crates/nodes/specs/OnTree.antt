@@ -1,9 +1,9 @@
 -- What the tree says: the same questions, asked of the tree as data.
 use Rattle.std.specs.Prelude.{ℕ, ◌+◌, cond, List, [], ◌∷◌, length, Option, Some, None}
 use Rattle.fdt.specs.Tree.{Property, Nodes, none, node}
-use Rattle.nodes.specs.Nav.{same_bytes, matches}
 use Rattle.fdt.specs.declared.Block.{Block}
 use Rattle.fdt.specs.Opening.{block}
+use Rattle.nodes.specs.Nav.{same_bytes, matches}
 
 -- where the first of these nodes stands
 abbrev pub head_of : Nodes → Option ℕ

@@ -193,7 +193,12 @@ fn prop_from<'a>(structure: &'a [u8], strings: &'a [u8], p: usize, name: &'a [u8
 
 // The value of the property of a name of the node at a place: where it stands in the structure block and how long it is; of equal names
 // the first counts.
-pub fn getprop<'a>(structure: &'a [u8], strings: &'a [u8], node: usize, name: &'a [u8]) -> Option<Block>
+pub fn getprop<'a>(
+    structure: &'a [u8],
+    strings: &'a [u8],
+    node: usize,
+    name: &'a [u8],
+) -> Option<Block>
     ensures { result ≡ prop_at structure.now strings.now node name.now }
 {
     let p = content_of(structure, strings, node)?;
@@ -224,7 +229,12 @@ fn child_from<'a>(structure: &'a [u8], strings: &'a [u8], p: usize, step: &'a [u
 }
 
 // The first child of the node at a place whose whole name, or part before `@`, is the step.
-pub fn subnode<'a>(structure: &'a [u8], strings: &'a [u8], node: usize, step: &'a [u8]) -> Option<usize>
+pub fn subnode<'a>(
+    structure: &'a [u8],
+    strings: &'a [u8],
+    node: usize,
+    step: &'a [u8],
+) -> Option<usize>
     ensures { result ≡ child_at structure.now strings.now node step.now }
 {
     let p = content_of(structure, strings, node)?;

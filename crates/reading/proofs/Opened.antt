@@ -4,6 +4,7 @@ use mathlib.Core.Path.{◌≡◌, sym, ◌∙◌, ap, subst}
 use Prim.Native.Nat.{ℕ, ◌+◌}
 use mathlib.Core.List.{List, []}
 use lib.ListN.{length}
+use Rattle.std.specs.Prelude.{Some, None, Ok}
 use Rattle.fdt.specs.declared.Blocks.{Blocks}
 use Rattle.fdt.specs.Header.{structure_of, strings_of}
 use Rattle.fdt.specs.Opening.{opened_of, block}
@@ -27,7 +28,6 @@ use Rattle.reading.proofs.Values as values
 use Rattle.reading.proofs.Paths as paths
 use Rattle.reading.proofs.Order as orders
 use Rattle.reading.proofs.ReadVeil as veils
-use Rattle.std.specs.Prelude.{Some, None, Ok}
 
 module _ (s : List ℕ) (k : Blocks) (o : opened_of s ≡ Ok (Some k)) where
   -- the tree that these bytes are

@@ -9,6 +9,7 @@ use mathlib.Core.List.{List, [], ◌∷◌}
 use lib.ListN.{length}
 use lib.Dec.{ltb}
 use borrow.Author.Tests.{eq-eqb, ne_eqb, lt-ltb, le-ltb, ltb-true, ltb-false}
+use Rattle.std.specs.Prelude.{Some}
 use Rattle.words.proofs.BytesLaws.{cond_elim}
 use Rattle.fdt.specs.Tree.{Property, Nodes, none, node, Tok, ended, fin, flat_k, lex_at}
 use Rattle.nodes.specs.Nav.{first_at}
@@ -20,7 +21,6 @@ use Rattle.reading.specs.Order.{Ascending, last, then, OneOf, this, later, count
 use Rattle.reading.proofs.Places.{node_at_lem, end_at_lem, past_name}
 use Rattle.reading.proofs.Reading.{numbered, reads}
 use Rattle.reading.proofs.Paths.{no_place, carried}
-use Rattle.std.specs.Prelude.{Some}
 
 -- ── Ascending places ──
 ascending_from : {o p : ℕ} {l : List ℕ} → o ≤ p → Ascending p l → Ascending o l

@@ -6,6 +6,7 @@ use native.Mathlib.Omega.{arith}
 use mathlib.Core.List.{List, [], ◌∷◌}
 use lib.ListN.{length, get_or}
 use lib.Dec.{eqb}
+use Rattle.std.specs.Prelude.{Option, Some, None}
 use Rattle.words.proofs.BytesLaws.{cond_elim}
 use Rattle.fdt.specs.Tree.{Property, Nodes, none, node}
 use Rattle.nodes.specs.Nav.{inside, first_at, next_at, child_at, matches}
@@ -14,7 +15,6 @@ use Rattle.nodes.specs.OnTree.{Among, first, below, after, head_of, find_k, go_k
 use Rattle.reading.specs.Reads.{WrittenFor}
 use Rattle.reading.specs.Paths.{path_in, NodeIn}
 use Rattle.reading.proofs.Reading.{reads}
-use Rattle.std.specs.Prelude.{Option, Some, None}
 
 -- ── Nodes among nodes ──
 module _ {q : ℕ} {nm : List ℕ} {ps : List Property} {kids rest : Nodes} where

@@ -6,6 +6,7 @@ use native.Mathlib.Omega.{arith}
 use mathlib.Core.Bool.{Bool, true, false, cond}
 use mathlib.Core.List.{List, [], ◌∷◌}
 use lib.ListN.{length}
+use Rattle.std.specs.Prelude.{Some}
 use Rattle.words.specs.Bytes.{part_of}
 use Rattle.words.proofs.BytesLaws.{cond_elim}
 use Rattle.fdt.specs.Tree.{Property, Nodes, none, node}
@@ -22,7 +23,6 @@ use Rattle.reading.specs.Veil.{Keeps, SameAt}
 use Rattle.reading.proofs.Reading.{reads, numbered}
 use Rattle.reading.proofs.Values.{same_equal, held_count, value_found, value_read}
 use Rattle.reading.proofs.Paths.{path}
-use Rattle.std.specs.Prelude.{Some}
 
 blank_length : (l : List ℕ) → length (blank l) ≡ length l
 unfolding blank

@@ -5,11 +5,11 @@ use Prim.Native.Nat.{ℕ, suc, ◌+◌}
 use mathlib.Core.List.{List, [], ◌∷◌}
 use mathlib.Core.Bool.{Bool, true, false, cond}
 use lib.Dec.{eqb}
+use Rattle.std.specs.Prelude.{None}
 use Rattle.fdt.specs.Tree.{Property, Nodes, none, node, Tok, begin, ended, flat_p, flat_k}
 use Rattle.nodes.specs.Nav.{first_kid, skip_t, lookup, find_t, matches}
 use Rattle.nodes.specs.OnTree.{head_of, lookup_in, find_k}
 use Rattle.nodes.specs.Order.{begun_before, order, number_in}
-use Rattle.std.specs.Prelude.{None}
 
 -- past a node's name: its first child
 pub first_in : (ps : List Property) (ks : Nodes) (r : List Tok) → first_kid r ≡ None → first_kid (flat_p ps (flat_k ks r)) ≡ head_of ks

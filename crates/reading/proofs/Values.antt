@@ -8,8 +8,11 @@ use mathlib.Core.List.{List, [], ◌∷◌}
 use lib.ListN.{length}
 use lib.Dec.{eqb}
 use borrow.Author.Tests.{eqb-true, eq-eqb}
+use Rattle.std.specs.Prelude.{Option, Some, None}
 use Rattle.words.proofs.BytesLaws.{cond_elim}
 use Rattle.fdt.specs.Tree.{Property, Nodes, none, node, Tok, ended, flat_p, flat_k, lex_at}
+use Rattle.fdt.specs.declared.Block.{Block}
+use Rattle.fdt.specs.Opening.{block}
 use Rattle.nodes.specs.Nav.{same_bytes, prop_at}
 use Rattle.nodes.specs.Cells.{count_in, count_at}
 use Rattle.nodes.specs.OnTree.{Among, lookup_in}
@@ -17,9 +20,6 @@ use Rattle.reading.specs.Reads.{WrittenFor, value_in}
 use Rattle.reading.specs.Values.{FirstOf, here, further, NoneOf, no_property, other, InPlace, no_more, in_place, ValueOf, value_of, held, or_none, count_of}
 use Rattle.reading.proofs.Places.{node_at_lem, property_at}
 use Rattle.reading.proofs.Reading.{row_of, whole, reads}
-use Rattle.std.specs.Prelude.{Option, Some, None}
-use Rattle.fdt.specs.declared.Block.{Block}
-use Rattle.fdt.specs.Opening.{block}
 
 no_true : {A : Type 0} → false ≡ true → A
 no_true e = let z : ◌≡◌ {A = ℕ} 0 1 = cc in let x : ⊥ = omega arith in absurd x

@@ -2,10 +2,10 @@
 use Rattle.std.specs.Prelude.{◌≡◌, ℕ, List, [], ◌∷◌, Option, Some, None}
 use Rattle.words.specs.Bytes.{part_of}
 use Rattle.fdt.specs.Tree.{Property, Nodes, none, node, fin, flat_k, lex_at}
+use Rattle.fdt.specs.declared.Block.{Block}
 use Rattle.nodes.specs.Nav.{name_at, first_at, next_at, prop_at, child_at}
 use Rattle.nodes.specs.Order.{place_at, order, number_in}
 use Rattle.nodes.specs.OnTree.{head_of, lookup_in, find_k}
-use Rattle.fdt.specs.declared.Block.{Block}
 
 -- the blocks b and n are written for this tree: a root with the empty name
 abbrev pub WrittenFor : List ℕ → List ℕ → ℕ → List Property → Nodes → Type 0

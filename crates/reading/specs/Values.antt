@@ -5,8 +5,8 @@ use Rattle.fdt.specs.Tree.{Property}
 use Rattle.cells.specs.declared.CellCount.{CellCount}
 use Rattle.cells.specs.declared.CellCount.TheVariants.{Absent}
 use Rattle.cells.specs.Count.{stated_by}
-use Rattle.nodes.specs.Nav.{same_bytes}
 use Rattle.fdt.specs.declared.Block.{Block}
+use Rattle.nodes.specs.Nav.{same_bytes}
 
 -- x is the first of these properties that has this name
 pub data FirstOf (name : List ℕ) : Property → List Property → Type 0 where

@@ -1,9 +1,9 @@
 -- Blocks that read the same but for the values of some properties.
 use Rattle.std.specs.Prelude.{◌≡◌, ℕ, ◌+◌, false, List, Some}
 use Rattle.words.specs.Bytes.{part_of}
+use Rattle.fdt.specs.Opening.{block}
 use Rattle.grammar.specs.Veil.{Free}
 use Rattle.nodes.specs.Nav.{name_at, first_at, next_at, prop_at, child_at}
-use Rattle.fdt.specs.Opening.{block}
 
 -- no property of this name is free, wherever it stands
 abbrev pub Keeps : Free → List ℕ → Type 0

@@ -6,10 +6,12 @@ use mathlib.Core.List.{List, [], ◌∷◌}
 use mathlib.Core.Bool.{Bool, true, false}
 use lib.ListN.{length}
 use lib.Dec.{eqb}
+use Rattle.std.specs.Prelude.{Option, Some, None}
 use Rattle.words.specs.Bytes.{part_of}
 use Rattle.words.proofs.BytesLaws.{cond_elim}
 use Rattle.fdt.specs.Tree.{Property, Tok, begin, ended, prop, fin, bad, lex_at}
 use Rattle.cells.specs.declared.CellCount.{CellCount}
+use Rattle.fdt.specs.declared.Block.{Block}
 use Rattle.nodes.specs.Nav.{same_bytes, inside, content_at, lookup, prop_at}
 use Rattle.nodes.specs.Cells.{address_cells, size_cells, count_at}
 use Rattle.reading.specs.Values.{value_of, count_of}
@@ -18,8 +20,6 @@ use Rattle.subtree.specs.Names.{status_name, okay, ranges_name}
 use Rattle.subtree.specs.Subtree.{node_at, props_of}
 use Rattle.subtree.proofs.SubtreeLaws.{value_at, count_at_lem}
 use Rattle.reserved.specs.Reserved.{available, stated_alike, is_empty, children_count}
-use Rattle.std.specs.Prelude.{Option, Some, None}
-use Rattle.fdt.specs.declared.Block.{Block}
 
 -- ── A value that is found is as long as is said ──
 abbrev Long : List ℕ → Option Block → Type 0

@@ -8,6 +8,7 @@ use mathlib.Core.Logic.{⊎_elim}
 use lib.ListN.{length}
 use lib.Dec.{eqb, leb, ltb}
 use borrow.Author.Tests.{eq-eqb, ne_eqb, eqb-true, eqb-false, lt-ltb, le-leb, lt-leb}
+use Rattle.std.specs.Prelude.{Option, Some, None}
 use Rattle.words.proofs.BytesLaws.{never, double_past}
 use Rattle.cells.specs.declared.CellCount.{CellCount}
 use Rattle.cells.specs.declared.CellCount.TheVariants.{Stated, Absent, Faulty}
@@ -19,7 +20,6 @@ use Rattle.cells.specs.Rows.{Table, unreadable, rows, number_at, reg_of, reg_row
 use Rattle.reserved.specs.Number.{cells_number}
 use Rattle.reserved.specs.Reserved.{exact_by, exact_of}
 use Rattle.reserved.proofs.NumberLaws.{number_missing, number_read}
-use Rattle.std.specs.Prelude.{Option, Some, None}
 
 -- ── One entry of n bytes ──
 module _ (n : ℕ) where

@@ -9,12 +9,12 @@ use mathlib.Core.Logic.{◌⊎◌, inl, inr}
 use lib.ListN.{length}
 use lib.Dec.{eqb, leb}
 use borrow.Author.Tests.{ne_eqb, le-leb, lt-leb, eqb-true, eqb-false, leb-true, leb-false}
+use Rattle.std.specs.Prelude.{Option, Some, None}
 use Rattle.words.specs.Bytes.{word, double}
 use Rattle.words.proofs.BytesLaws.{never, cond_elim}
 use Rattle.cells.specs.Count.{cell_bytes}
 use Rattle.cells.specs.Rows.{number_at}
 use Rattle.reserved.specs.Number.{cells_number}
-use Rattle.std.specs.Prelude.{Option, Some, None}
 
 -- cells that take bytes take four each, and are at most two
 four_each : (c : ℕ) → (cell_bytes c ≡ 0 → ⊥) → (cell_bytes c ≡ c * 4) × (c ≤ 2)

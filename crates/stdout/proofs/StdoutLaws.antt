@@ -8,9 +8,11 @@ use mathlib.Core.List.{List, [], ◌∷◌}
 use lib.ListN.{length, get_or, get_or-eq_default}
 use lib.Dec.{eqb}
 use borrow.Author.Tests.{eq-eqb, ne_eqb}
+use Rattle.std.specs.Prelude.{Option, Some, None}
 use Rattle.words.specs.Bytes.{part_of, Finds}
 use Rattle.words.proofs.BytesLaws.{cond_elim, never}
 use Rattle.fdt.specs.Tree.{Nodes, none, node}
+use Rattle.fdt.specs.declared.Block.{Block}
 use Rattle.nodes.specs.Nav.{prop_at, child_at}
 use Rattle.nodes.specs.Path.{path_at}
 use Rattle.nodes.specs.OnTree.{head_of, find_k, kids_of}
@@ -24,8 +26,6 @@ use Rattle.text.proofs.StringLaws.{string_held}
 use Rattle.translation.specs.declared.Sought.TheVariants.{FirstReg}
 use Rattle.translation.specs.Translation.{translated}
 use Rattle.stdout.specs.Stdout.{before_colon, aliased, named, stdout_by, stdout_in, is_there, uart_at, uart_by, uart_of}
-use Rattle.std.specs.Prelude.{Option, Some, None}
-use Rattle.fdt.specs.declared.Block.{Block}
 use Rattle.translation.specs.declared.Translated.{Translated}
 
 -- ── Paths ──

@@ -1,6 +1,7 @@
 -- The console: document 01, "Stdout" and "Devices".
 use Rattle.std.specs.Prelude.{ℕ, List, Bool, true, false, cond, get_or, eqb, Option, Some, None}
 use Rattle.words.specs.Bytes.{bytes, first_byte}
+use Rattle.cells.specs.declared.Region.{Region}
 use Rattle.fdt.specs.Tree.{Nodes, none, node}
 use Rattle.reading.specs.Values.{value_of}
 use Rattle.subtree.specs.Names.{chosen_name, aliases_name, stdout_path_name, compatible_name}
@@ -9,7 +10,6 @@ use Rattle.text.specs.Strings.{string_in}
 use Rattle.translation.specs.declared.Sought.TheVariants.{FirstReg}
 use Rattle.translation.specs.Translation.{translated}
 use Rattle.translation.specs.declared.Translated.{Translated}
-use Rattle.cells.specs.declared.Region.{Region}
 
 -- "`stdout-path` of /chosen up to a colon"
 abbrev pub before_colon : List ℕ → List ℕ

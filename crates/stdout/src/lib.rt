@@ -13,17 +13,31 @@ use cells::Region;
 use translation::Sought;
 
 // The node that a name in /aliases stands for: its value is a path, of which nothing is cut.
-fn alias_node<'a>(structure: &'a [u8], strings: &'a [u8], root: usize, name: &'a [u8]) -> Option<usize>
+fn alias_node<'a>(
+    structure: &'a [u8],
+    strings: &'a [u8],
+    root: usize,
+    name: &'a [u8],
+) -> Option<usize>
     requires { node_at structure.now strings.now root ≡ root_at structure.now strings.now }
     ensures { result ≡ head_of (aliased (root_at structure.now strings.now) (string_in (value_of name.now (props_of (under_root aliases_name (root_at structure.now strings.now)))))) }
 {
     let aliases = nodes::subnode(structure, strings, root, b"aliases")?;
     let path = text::string_of(structure, strings, aliases, name)?;
-    nodes::path_offset(structure, strings, words::part(structure, path.at, path.len))
+    nodes::path_offset(
+        structure,
+        strings,
+        words::part(structure, path.at, path.len),
+    )
 }
 
 // The node of a name: a path where it begins with `/`, else an alias.
-fn node_named<'a>(structure: &'a [u8], strings: &'a [u8], root: usize, name: &'a [u8]) -> Option<usize>
+fn node_named<'a>(
+    structure: &'a [u8],
+    strings: &'a [u8],
+    root: usize,
+    name: &'a [u8],
+) -> Option<usize>
     requires { node_at structure.now strings.now root ≡ root_at structure.now strings.now }
     ensures { result ≡ head_of (named (root_at structure.now strings.now) name.now) }
 {

@@ -6,6 +6,7 @@ use mathlib.Core.Bool.{Bool, true, false, cond}
 use mathlib.Core.List.{List, [], ◌∷◌}
 use lib.ListN.{length, get_or}
 use lib.Dec.{eqb}
+use Rattle.std.specs.Prelude.{Option, Some, None, Ok}
 use Rattle.fdt.specs.declared.Blocks.{Blocks}
 use Rattle.fdt.specs.Header.{structure_of, strings_of}
 use Rattle.fdt.specs.Token.{tok_at}
@@ -22,7 +23,6 @@ use Rattle.reading.proofs.Values.{held_count}
 use Rattle.reading.proofs.Opened.{on_written}
 use Rattle.subtree.specs.Subtree.{node_at, at, root_at, Stands, props_of, rest_of, go_to, path_to}
 use Rattle.subtree.proofs.TokenRows.{skip_read, node_content, node_nothing, node_few, found_stands, looked_up, step_found, step_stands, row_is}
-use Rattle.std.specs.Prelude.{Option, Some, None, Ok}
 
 module _ (b n : List ℕ) (q : ℕ) where
   -- THE THEOREMS, at any place q of any blocks: the children, and the siblings after it

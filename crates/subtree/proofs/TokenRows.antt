@@ -7,12 +7,14 @@ use native.Mathlib.Omega.{arith}
 use mathlib.Core.Bool.{Bool, true, false, cond}
 use mathlib.Core.List.{List, [], ◌∷◌}
 use lib.ListN.{length}
+use Rattle.std.specs.Prelude.{Some, None}
 use Rattle.words.specs.Bytes.{part_of}
 use Rattle.words.proofs.BytesLaws.{cond_elim}
 use Rattle.fdt.specs.declared.Token.{Token}
 use Rattle.fdt.specs.declared.Token.TheVariants.{Bad, Nop, Begin, EndNode, Prop, Fin}
 use Rattle.fdt.specs.Token.{tok_at}
 use Rattle.fdt.specs.Tree.{Property, Nodes, none, node, count, Tok, begin, ended, prop, fin, bad, flat_p, flat_k, taken, lex_at}
+use Rattle.fdt.specs.Opening.{block}
 use Rattle.fdt.proofs.TokLaws.{Ahead, ahead, ahead_of}
 use Rattle.fdt.proofs.LexLaws.{lex_at_lem}
 use Rattle.nodes.specs.Nav.{same_bytes, matches, content_at, name_at, first_kid, skip_t, drop_p, lookup, find_t}
@@ -21,8 +23,6 @@ use Rattle.reading.specs.Values.{value_of, held}
 use Rattle.reading.proofs.Places.{node_at_lem, property_at, end_at_lem, past_name, past_nodes}
 use Rattle.reading.proofs.Tokens.{skip_inside}
 use Rattle.subtree.specs.Subtree.{props_t, nodes_t, node_at, at, Stands}
-use Rattle.std.specs.Prelude.{Some, None}
-use Rattle.fdt.specs.Opening.{block}
 
 -- ── Past properties, and past a node's end: never more tokens than before ──
 drop_short : (ts : List Tok) → length (drop_p ts) ≤ length ts
@@ -119,7 +119,7 @@ module _ (b n : List ℕ) where
   lex_few (suc f) p m =
       rw (lex_at_lem b n p) (taken_few (suc f) p (length b) (tok_at b n p) (ahead b n p) (λ q x y. lex_few f q (omega arith)))
 
-  -- the tokens past the end of a node are again those from Some place on
+  -- the tokens past the end of a node are again those from some place on
   pub skip_read : (ts : List Tok) (d p : ℕ) → lex_at b n p ≡ ts → (r : ℕ) × (lex_at b n r ≡ skip_t ts d)
   skip_read [] d p e = (p, e)
   skip_read (begin q nm ∷ ts) d p e = let a = node_at_lem b n p e in skip_read ts (suc d) a.next (sym a.tokens)

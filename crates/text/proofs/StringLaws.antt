@@ -10,15 +10,15 @@ use lib.ListN.{length, take, drop, length-drop}
 use lib.Seq.{take-take, drop-drop}
 use lib.Dec.{eqb, leb}
 use borrow.Author.Tests.{leb-true, leb-false, eqb-true, eq-eqb}
+use Rattle.std.specs.Prelude.{Option, Some, None}
 use Rattle.words.specs.Bytes.{part_of}
 use Rattle.words.proofs.BytesLaws.{cond_elim, never, part_is, part_none, part_length}
 use Rattle.cells.specs.Text.{text_of}
 use Rattle.cells.proofs.TextLaws.{text_ends}
+use Rattle.fdt.specs.declared.Block.{Block}
 use Rattle.nodes.specs.Nav.{same_bytes, prop_at}
 use Rattle.reading.specs.Values.{held}
 use Rattle.text.specs.Strings.{up_to, string_in, ends_by, string_by, string_at, starts_with, contains}
-use Rattle.std.specs.Prelude.{Option, Some, None}
-use Rattle.fdt.specs.declared.Block.{Block}
 
 -- ── The string of a property ──
 -- a part cut short is the shorter part

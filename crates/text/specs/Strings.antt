@@ -2,9 +2,9 @@
 use Rattle.std.specs.Prelude.{ℕ, List, [], ◌∷◌, Bool, true, false, cond, ◌||◌, take, eqb, Option, Some, None}
 use Rattle.words.specs.Bytes.{part_of}
 use Rattle.cells.specs.Text.{text_of}
-use Rattle.nodes.specs.Nav.{prop_at}
 use Rattle.fdt.specs.declared.Block.{Block}
 use Rattle.fdt.specs.Opening.{block}
+use Rattle.nodes.specs.Nav.{prop_at}
 
 -- ── On the tree ──
 abbrev pub up_to : List ℕ → Option ℕ → Option (List ℕ)

@@ -7,6 +7,7 @@ use Prim.Native.Nat.{ℕ, suc, ◌+◌, ◌-◌, ◌^◌, ◌≤◌, ◌<◌, ma
 use native.Mathlib.Omega.{arith}
 use lib.ListN.{length}
 use borrow.Author.Tests.{eq-eqb, ne_eqb, le-leb, lt-leb}
+use Rattle.std.specs.Prelude.{Option, Some, None}
 use Rattle.words.proofs.BytesLaws.{never}
 use Rattle.words.specs.Bytes.{part_of}
 use Rattle.cells.specs.declared.CellCount.{CellCount}
@@ -15,6 +16,7 @@ use Rattle.cells.specs.declared.RegRow.{RegRow}
 use Rattle.cells.specs.declared.RegRow.TheVariants.{NoReg, PastReg, RegAt}
 use Rattle.cells.specs.Rows.{Table, unreadable, rows, reg_of, ranges_of, reg_row}
 use Rattle.fdt.specs.Tree.{Nodes, none, node, count, height}
+use Rattle.fdt.specs.declared.Block.{Block}
 use Rattle.nodes.specs.Nav.{prop_at, first_at, next_at}
 use Rattle.nodes.specs.Path.{path_at}
 use Rattle.nodes.specs.Cells.{count_at, address_cells, size_cells}
@@ -33,8 +35,6 @@ use Rattle.subtree.specs.Names.{reg_name, ranges_name}
 use Rattle.translation.specs.Translation.{address_of, size_of, over, arrived, trail, first_row, start_of, translated, reached}
 use Rattle.translation.specs.Search.{begun_at, via_window, up_through, or_on, tried, searched, finished, Begins, row_left, node_left}
 use Rattle.translation.proofs.SearchLaws.{tried_on, on_count, search_is}
-use Rattle.std.specs.Prelude.{Option, Some, None}
-use Rattle.fdt.specs.declared.Block.{Block}
 use Rattle.translation.specs.declared.Translated.{Translated}
 
 -- ── The end ──

@@ -3,8 +3,8 @@
 #![tactic(auto)]
 
 use cells::{CellCount, Region};
-use fdt::{Blocks, Opened, Token};
-use nodes::{Found, Value};
+use fdt::{Blocks, Token};
+use numbers::Numbered;
 use reservations::Reservation;
 use std::io::{Read, Result};
 use stream::Tally;
@@ -286,16 +286,16 @@ fn first_named<'a>(structure: &'a [u8], strings: &'a [u8], node: usize, name: &'
 fn finds<'a>(structure: &'a [u8], strings: &'a [u8], node: usize, name: &'a [u8]) -> bool {
     let place = first_named(structure, strings, node, name);
     match nodes::getprop(structure, strings, node, name) {
-        Value::Here(at, len) => {
+        Some(value) => {
             if place == NONE {
                 return false;
             }
-            if at != stream::forward(structure, place, 12) {
+            if value.at != stream::forward(structure, place, 12) {
                 return false;
             }
-            len == words::be32(structure, stream::forward(structure, place, 4))
+            value.len == words::be32(structure, stream::forward(structure, place, 4))
         }
-        Value::Missing => place == NONE,
+        None => place == NONE,
     }
 }
 
@@ -402,11 +402,8 @@ fn step_of<'a>(structure: &'a [u8], strings: &'a [u8], node: usize, whole: bool)
     stem(name)
 }
 
-fn place(found: Found) -> usize {
-    match found {
-        Found::At(at) => at,
-        Found::Nothing => NONE,
-    }
+fn place(found: Option<usize>) -> usize {
+    found.unwrap_or(NONE)
 }
 
 fn matches<'a>(name: &'a [u8], step: &'a [u8]) -> bool {
@@ -621,30 +618,30 @@ fn onward<'a>(structure: &'a [u8], strings: &'a [u8], ups: &[usize; 32], depth: 
     let mut d = depth;
     while 0 < d {
         match nodes::next_subnode(structure, strings, up(ups, d)) {
-            Found::At(next) => {
+            Some(next) => {
                 return Next::Node(next, d);
             }
-            Found::Nothing => {
+            None => {
                 d -= 1;
             }
         }
     }
     match nodes::next_subnode(structure, strings, up(ups, 0)) {
-        Found::At(_) => Next::Lost,
-        Found::Nothing => Next::Done,
+        Some(_) => Next::Lost,
+        None => Next::Done,
     }
 }
 
 // The next node in document order.
 fn next_node<'a>(structure: &'a [u8], strings: &'a [u8], ups: &[usize; 32], depth: usize) -> Next {
     match nodes::first_subnode(structure, strings, up(ups, depth)) {
-        Found::At(next) => {
+        Some(next) => {
             if depth < 31 {
                 return Next::Node(next, depth + 1);
             }
             Next::Lost
         }
-        Found::Nothing => onward(structure, strings, ups, depth),
+        None => onward(structure, strings, ups, depth),
     }
 }
 
@@ -732,16 +729,14 @@ fn replay_tree<'a>(blob: &'a [u8], text: &'a [u8]) -> u64 {
     let opened = fdt::open_tree(blob);
     let number = opened.number();
     match opened {
-        Opened::NoTree => part_of(equal(text, b"no tree\n"), 1),
-        Opened::Tree(b) => {
+        Ok(None) => part_of(equal(text, b"no tree\n"), 1),
+        Ok(Some(b)) => {
             if number != 0 {
                 return 1;
             }
             same_tree(blob, text, b)
         }
-        Opened::BadHeader => part_of(is_refusal(text, number), 1),
-        Opened::OverLimit => part_of(is_refusal(text, number), 1),
-        Opened::BadStructure => part_of(is_refusal(text, number), 1),
+        Err(_) => part_of(is_refusal(text, number), 1),
     }
 }
 

@@ -10,6 +10,7 @@ use mathlib.Core.List.{List}
 use lib.ListN.{length}
 use lib.Dec.{leb}
 use borrow.Author.Tests.{eq-eqb, ne_eqb, le-leb, lt-leb, leb-true, leb-false}
+use Rattle.std.specs.Prelude.{Option, Some, None}
 use Rattle.words.specs.Bytes.{part_of}
 use Rattle.words.proofs.BytesLaws.{part_none, part_length}
 use Rattle.entry.specs.declared.BootloaderMemoryKind.TheVariants.{Reserved}
@@ -40,7 +41,6 @@ use Rattle.visit.specs.declared.Stage.{Stage}
 use Rattle.visit.specs.declared.Cursor.{Cursor}
 use Rattle.visit.specs.declared.Step.TheVariants.{On}
 use Rattle.visit.specs.Steps.{next_row, slash, where_here, parent_at, enter_at, yields, entry_step, row_step, child_step, stage_step, step_of}
-use Rattle.std.specs.Prelude.{Option, Some, None}
 
 -- ── The parent of a rule's children ──
 module _ (b n : List ℕ) (f : Option ℕ) (is : f ≡ path_at b n slash) where

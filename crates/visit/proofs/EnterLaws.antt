@@ -6,6 +6,7 @@ use native.Mathlib.Omega.{arith}
 use mathlib.Core.Bool.{Bool, true, false, cond}
 use mathlib.Core.List.{List, [], ◌∷◌, ◌++◌}
 use lib.ListN.{length}
+use Rattle.std.specs.Prelude.{Option, Some, None}
 use Rattle.words.specs.Bytes.{part_of}
 use Rattle.words.proofs.BytesLaws.{part_length}
 use Rattle.entry.specs.declared.Claim.{Claim}
@@ -33,7 +34,6 @@ use Rattle.visit.specs.declared.Stage.TheVariants.{Children}
 use Rattle.visit.specs.declared.Cursor.{Cursor}
 use Rattle.visit.specs.Steps.{no_part, cursor_at, start_at, part_by, slash, where_here, parent_at, root_cells, ranges_by, enter_at}
 use Rattle.visit.specs.Script.{rows_script, kids_script, soc_script, way_script, after_on, script}
-use Rattle.std.specs.Prelude.{Option, Some, None}
 
 -- ── Empty parts ──
 module _ (b : List ℕ) (a p c : CellCount) where

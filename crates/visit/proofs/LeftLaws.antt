@@ -9,6 +9,7 @@ use lib.ListN.{length, drop}
 use lib.Seq.{drop-nil}
 use lib.Dec.{leb}
 use borrow.Author.Tests.{leb-true, leb-false}
+use Rattle.std.specs.Prelude.{Option, Some, None}
 use Rattle.words.proofs.BytesLaws.{never}
 use Rattle.entry.specs.declared.Claim.{Claim}
 use Rattle.cells.specs.declared.CellCount.{CellCount}
@@ -25,7 +26,6 @@ use Rattle.reservations.proofs.EntryLaws.{entry_past}
 use Rattle.claims.specs.declared.Way.{Way}
 use Rattle.claims.specs.Claims.{and_then, block_claims, entries, child_regions, claims_by, kid_claims}
 use Rattle.visit.specs.Script.{claims_in, rows_script, kids_script, block_script}
-use Rattle.std.specs.Prelude.{Option, Some, None}
 
 -- ── Rows of a value ──
 abbrev pub RowsLeft : List Region → ℕ → RegRow → Type 0

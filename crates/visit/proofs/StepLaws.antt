@@ -9,6 +9,7 @@ use mathlib.Core.List.{List, [], ◌∷◌, ◌++◌, append_assoc, append-nil}
 use lib.ListN.{length}
 use lib.Dec.{eqb}
 use borrow.Author.Tests.{ne_eqb}
+use Rattle.std.specs.Prelude.{Option, Some, None}
 use Rattle.words.specs.Bytes.{part_of}
 use Rattle.words.proofs.BytesLaws.{never}
 use Rattle.entry.specs.declared.Claim.{Claim}
@@ -42,7 +43,6 @@ use Rattle.visit.specs.Steps.{next_row, cursor_at, start_at, enter_at, yields, e
 use Rattle.visit.specs.Script.{claims_in, rows_script, kids_script, block_script, soc_script, way_script, controllers_on, console_on, soc_on, virt_on, devices_on, reserved_on, after_on, script, Follows}
 use Rattle.visit.proofs.LeftLaws.{RowsLeft, rows_left, EntriesLeft, entries_left, and_then_lem, claims_append, claims_block, claims_kids}
 use Rattle.visit.proofs.EnterLaws.{value_part, enter_is, enter_stands}
-use Rattle.std.specs.Prelude.{Option, Some, None}
 
 -- ── The first cursor ──
 module _ (t : Nodes) where

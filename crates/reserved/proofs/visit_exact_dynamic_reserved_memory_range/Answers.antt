@@ -1,7 +1,7 @@
 -- `visit_exact_dynamic_reserved_memory_range` meets its contract: a law for each way out, from the number in `size` and the two rows that
 -- were read of `alloc-ranges`. The number was read, so cells are at most two, and four times that fits. Assumes nothing.
-use mathlib.Core.Path.{◌∙◌}
 use native.Mathlib.Omega.{arith}
+use mathlib.Core.Path.{◌∙◌}
 use Rattle.reserved.proofs.NumberLaws.{number_read}
 use Rattle.reserved.proofs.ExactLaws.{of_nothing, no_first, more_rows, Lone, other_size, too_far, exactly, unstated, no_number, not_long, by_rows}
 use Rattle.cells.specs.Rows.{reg_of}

@@ -1,7 +1,7 @@
 -- `visit::part_by` meets its contract: the value's part, or an empty one. Assumes nothing.
 use mathlib.Core.Path.{◌≡◌, refl, ◌∙◌}
-use Rattle.fdt.specs.declared.Block.{Block}
 use Rattle.std.specs.Prelude.{Option, Some, None, unwrap_or}
+use Rattle.fdt.specs.declared.Block.{Block}
 use Rattle.visit.specs.Steps.{no_part, part_by}
 use Rattle.visit.proofs.part_by.Goals as goal
 
