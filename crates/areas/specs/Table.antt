@@ -1,4 +1,5 @@
 -- The finished table in lent slots, and what a build answers: document 01, "Areas" and "Numbers a caller gets back".
+use Rattle.numbers.specs.Number.{number_by}
 use Rattle.areas.specs.declared.AreasRefusal.TheVariants.{TooManyAreas}
 use Rattle.areas.specs.declared.AreasRefusal.{AreasRefusal}
 use Rattle.std.specs.Prelude.{◌≡◌, List, [], ◌∷◌, ◌++◌, Bool, cond, ℕ, ◌+◌, ◌-◌, ◌/◌, leb, length, drop, Option, Result, Ok, Err}
@@ -10,8 +11,7 @@ abbrev pub refusal_number : AreasRefusal → ℕ
 refusal_number TooManyAreas = 3
 
 abbrev pub built_number : Result ℕ AreasRefusal → ℕ
-built_number (Ok _) = 0
-built_number (Err r) = refusal_number r
+built_number = number_by refusal_number
 
 -- ── For any form of slots ──
 

@@ -1,4 +1,5 @@
 -- What a tree is refused for beyond its form: document 01, "Numbers a caller gets back", 7 and 8.
+use Rattle.numbers.specs.Number.{number_by}
 use Rattle.std.specs.Prelude.{ℕ, List, [], ◌∷◌, Bool, true, false, cond, ◌&&◌, ◌||◌, Result, Ok, Err, Option, Some, None}
 use Rattle.cells.specs.declared.CellCount.{CellCount}
 use Rattle.cells.specs.declared.Region.{Region}
@@ -63,5 +64,4 @@ value_fault_number UnreadableReg = 7
 value_fault_number UnreadableRanges = 8
 
 abbrev pub judged_number : Result Unit ValueFault → ℕ
-judged_number (Ok _) = 0
-judged_number (Err f) = value_fault_number f
+judged_number = number_by value_fault_number

@@ -1,6 +1,6 @@
 -- The tree's call, by what opening and judging say; and that it makes a map again. Assumes nothing.
 use Rattle.dtb.specs.declared.TreeRefusal.TheVariants.{MapFull}
-use Rattle.std.specs.Prelude.{Ok, Err}
+use Rattle.std.specs.Prelude.{Option, Some, None, Result, Ok, Err}
 use mathlib.Core.Path.{◌≡◌, sym, ◌∙◌, ap}
 use mathlib.Core.Bool.{Bool, true, false, cond}
 use mathlib.Core.List.{List}
@@ -12,8 +12,7 @@ use Rattle.memory.specs.Made.{Made}
 use Rattle.memory.specs.Run.{is_done, registered_all}
 use Rattle.memory.proofs.RunLaws.{all_made}
 use Rattle.fdt.specs.declared.Blocks.{Blocks}
-use Rattle.fdt.specs.declared.Opened.{Opened}
-use Rattle.fdt.specs.declared.Opened.TheVariants.{NoTree, Tree, BadHeader as NoHeader, OverLimit as Over, BadStructure as NoStructure}
+use Rattle.fdt.specs.declared.TreeFault.{TreeFault}
 use Rattle.fdt.specs.Header.{structure_of, strings_of}
 use Rattle.fdt.specs.Tree.{Nodes, tree_of}
 use Rattle.fdt.specs.Opening.{blocks_of, opened_of}
@@ -22,8 +21,7 @@ use Rattle.words.specs.Bytes.{part_of}
 use Rattle.subtree.specs.Subtree.{root_at}
 use Rattle.subtree.proofs.SubtreeLaws.{opened_tree}
 use Rattle.reservations.specs.Reservations.{block_in, entries_of}
-use Rattle.claims.specs.declared.Judged.{Judged}
-use Rattle.claims.specs.declared.Judged.TheVariants.{Sound, UnreadableReg as NoReg, UnreadableRanges as NoRanges}
+use Rattle.claims.specs.declared.ValueFault.{ValueFault}
 use Rattle.claims.specs.Claims.{claims_of}
 use Rattle.claims.specs.Judging.{judged_of}
 use Rattle.dtb.specs.Call.{tree_answered, settled_tree, judged_call, opened_call, tree_registered}
@@ -39,19 +37,19 @@ settled_refused m r e = rw e
 
 module _ (p : ℕ) (m : MemoryMap) (s : List ℕ) (arm : Bool) where
   -- by what opening said
-  pub call_opened : (o : Opened) → o ≡ opened_of s → tree_registered p m s arm ≡ opened_call p m s arm o
+  pub call_opened : (o : Result (Option Blocks) TreeFault) → o ≡ opened_of s → tree_registered p m s arm ≡ opened_call p m s arm o
   unfolding tree_registered
   call_opened o e = rw e
 
   -- by what judging the tree said
-  pub call_judged : (k : Blocks) (j : Judged) → Tree k ≡ opened_of s → j ≡ judged_of arm (tree_of (structure_of s) (strings_of s))
+  pub call_judged : (k : Blocks) (j : Result Unit ValueFault) → Ok (Some k) ≡ opened_of s → j ≡ judged_of arm (tree_of (structure_of s) (strings_of s))
       → tree_registered p m s arm
       ≡ judged_call m j (registered_all p m (claims_of arm (entries_of (block_in s k)) (tree_of (structure_of s) (strings_of s))))
   unfolding tree_registered
   call_judged k j e i = rw (← e, ← i)
 
   -- the same with the blocks b and n as they are cut out of the bytes, and read where they are
-  module _ (k : Blocks) (b n : List ℕ) (opened : Tree k ≡ opened_of s) (eb : b ≡ part_of s k.structure.at k.structure.len)
+  module _ (k : Blocks) (b n : List ℕ) (opened : Ok (Some k) ≡ opened_of s) (eb : b ≡ part_of s k.structure.at k.structure.len)
       (en : n ≡ part_of s k.strings.at k.strings.len) where
     is_structure : b ≡ structure_of s
     unfolding blocks_of
@@ -64,7 +62,7 @@ module _ (p : ℕ) (m : MemoryMap) (s : List ℕ) (arm : Bool) where
     is_tree : root_at b n ≡ tree_of (structure_of s) (strings_of s)
     is_tree = rw (is_structure, is_strings) (opened_tree s k (sym opened))
 
-    pub call_tree : (j : Judged) → j ≡ judged_of arm (root_at b n)
+    pub call_tree : (j : Result Unit ValueFault) → j ≡ judged_of arm (root_at b n)
         → tree_registered p m s arm ≡ judged_call m j (registered_all p m (claims_of arm (entries_of (block_in s k)) (root_at b n)))
     call_tree j e =
         call_judged k j opened (e ∙ ap (judged_of arm) is_tree)
@@ -79,18 +77,15 @@ settled_made p m r g h = go (is_done r.answer)
     go true = h
     go false = g
 
-judged_made : (p : ℕ) (m : MemoryMap) (j : Judged) (r : Registered) → Made p m → Made p r.map → Made p (judged_call m j r).map
-judged_made p m Sound r g h = settled_made p m r g h
-judged_made p m NoReg r g h = g
-judged_made p m NoRanges r g h = g
+judged_made : (p : ℕ) (m : MemoryMap) (j : Result Unit ValueFault) (r : Registered) → Made p m → Made p r.map → Made p (judged_call m j r).map
+judged_made p m (Ok _) r g h = settled_made p m r g h
+judged_made p m (Err _) r g h = g
 
 pub tree_made : (p : ℕ) (m : MemoryMap) (s : List ℕ) (arm : Bool) → Page p → Made p m → Made p (tree_registered p m s arm).map
 unfolding tree_registered
 tree_made p m s arm g h = go (opened_of s)
   where
-    go : (o : Opened) → Made p (opened_call p m s arm o).map
-    go NoTree = h
-    go NoHeader = h
-    go Over = h
-    go NoStructure = h
-    go (Tree k) = judged_made p m (judged_of arm (tree_of (structure_of s) (strings_of s))) _ h (all_made p m _ g h)
+    go : (o : Result (Option Blocks) TreeFault) → Made p (opened_call p m s arm o).map
+    go (Ok None) = h
+    go (Err _) = h
+    go (Ok (Some k)) = judged_made p m (judged_of arm (tree_of (structure_of s) (strings_of s))) _ h (all_made p m _ g h)

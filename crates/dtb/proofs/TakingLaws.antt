@@ -1,9 +1,8 @@
 -- A run of registrations that takes its claims from what is left to claim, one step at a time. Assumes nothing.
-use Rattle.std.specs.Prelude.{Ok}
+use Rattle.std.specs.Prelude.{Option, Some, None, Ok}
 use mathlib.Core.Path.{◌≡◌, refl, sym, ◌∙◌, subst}
 use mathlib.Core.Bool.{Bool, true, false}
 use mathlib.Core.List.{List, [], ◌∷◌}
-use mathlib.Core.Option.{Option, some, none as nothing}
 use Prim.Native.Nat.{ℕ, ◌<◌}
 use native.Mathlib.Omega.{arith}
 use lib.ListN.{length}
@@ -14,10 +13,9 @@ use Rattle.memory.specs.declared.MemoryMap.{MemoryMap}
 use Rattle.memory.specs.declared.Registered.{Registered}
 use Rattle.memory.specs.Map.{answered, registered}
 use Rattle.memory.specs.Run.{is_done, registered_all}
-use Rattle.visit.specs.declared.Claimed.{Claimed}
 use Rattle.visit.specs.declared.Cursor.{Cursor}
 use Rattle.visit.specs.declared.Step.{Step}
-use Rattle.visit.specs.Steps.{claimed, step_of}
+use Rattle.visit.specs.Steps.{step_of}
 use Rattle.visit.specs.Script.{claims_in, Follows}
 use Rattle.visit.proofs.StepLaws.{follows}
 
@@ -25,10 +23,6 @@ use Rattle.visit.proofs.StepLaws.{follows}
 pub went : (b n block : List ℕ) (arm : Bool) (c : Cursor) (r s : Step) → Stands b n c.next → r ≡ step_of b n block arm c → r ≡ s
     → Follows b n block arm c s
 went b n block arm c r s h e i = subst (Follows b n block arm c) (sym e ∙ i) (follows b n block arm c h)
-
--- a claim as the step hands it over
-pub claim_back : (x : Claimed) (y : Claim) → x ≡ claimed y → claim x.base x.size x.kind ≡ y
-claim_back x y e = rw e refl
 
 -- a step leaves less to do
 pub shorter : (l s : List (Option Claim)) (o : Option Claim) → l ≡ o ∷ s → length s < length l
@@ -42,12 +36,12 @@ module _ (p : ℕ) (m : MemoryMap) (l : List (Option Claim)) where
 
   module _ (s : List (Option Claim)) where
     -- a step without a claim
-    pub take_over : l ≡ nothing ∷ s → registered_all p m (claims_in l) ≡ registered_all p m (claims_in s)
+    pub take_over : l ≡ None ∷ s → registered_all p m (claims_in l) ≡ registered_all p m (claims_in s)
     unfolding claims_in
     take_over e = rw e
 
     -- a claim that is registered, r being what that gives
-    module _ (c : Claim) (r : Registered) (e : l ≡ some c ∷ s) (i : r ≡ registered p m c) where
+    module _ (c : Claim) (r : Registered) (e : l ≡ Some c ∷ s) (i : r ≡ registered p m c) where
       pub take_done : is_done r.answer ≡ true → registered_all p m (claims_in l) ≡ registered_all p r.map (claims_in s)
       unfolding registered_all claims_in
       take_done a = rw (e, ← i, a)

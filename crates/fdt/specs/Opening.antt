@@ -1,4 +1,5 @@
 -- Opening a tree: document 01, "The tree" and "Numbers a caller gets back".
+use Rattle.numbers.specs.Number.{number_by}
 use Rattle.std.specs.Prelude.{ℕ, List, cond, length, leb, eqb, Option, Some, None, Result, Ok, Err}
 use Rattle.fdt.specs.Header.{totalsize, off_dt_struct, off_dt_strings, off_mem_rsvmap, size_dt_struct, size_dt_strings, good_header, structure_of, strings_of}
 use Rattle.fdt.specs.Walk.{walked}
@@ -14,8 +15,7 @@ fault_number BadStructure = 5
 fault_number OverLimit = 6
 
 abbrev pub opened_number : Result (Option Blocks) TreeFault → ℕ
-opened_number (Ok _) = 0
-opened_number (Err f) = fault_number f
+opened_number = number_by fault_number
 
 -- a part of some bytes, by its place and its length
 abbrev pub block : ℕ → ℕ → Block

@@ -1,4 +1,5 @@
 -- What a late claim does, whole: request L3 of document 02.
+use Rattle.numbers.specs.Number.{number_by}
 use Rattle.late_claim.specs.declared.LateRefusal.TheVariants.{UnknownKind, NotLate, BadTable, MapFull, TooManyAreas}
 use Rattle.late_claim.specs.declared.LateRefusal.{LateRefusal}
 use Rattle.entry.specs.declared.BootloaderMemoryKind.{BootloaderMemoryKind}
@@ -27,8 +28,7 @@ late_refusal_number MapFull = 2
 late_refusal_number TooManyAreas = 3
 
 abbrev pub late_number : Result Unit LateRefusal → ℕ
-late_number (Ok _) = 0
-late_number (Err r) = late_refusal_number r
+late_number = number_by late_refusal_number
 
 -- ── What is left, and what is refused ──
 -- "its areas less the rounded claim"; a claim that registers nothing takes nothing away

@@ -1,4 +1,5 @@
 -- The memory map, and what a registration does to it: document 01, "Rounding and the map".
+use Rattle.numbers.specs.Number.{number_by}
 use Rattle.memory.specs.declared.MapRefusal.TheVariants.{UnknownKind, MapFull}
 use Rattle.memory.specs.declared.MapRefusal.{MapRefusal}
 use Rattle.entry.specs.declared.BootloaderMemoryKind.{BootloaderMemoryKind}
@@ -18,8 +19,7 @@ refusal_number UnknownKind = 1
 refusal_number MapFull = 2
 
 abbrev pub answer_number : Result Unit MapRefusal → ℕ
-answer_number (Ok _) = 0
-answer_number (Err r) = refusal_number r
+answer_number = number_by refusal_number
 
 -- the slots of a map: an entry in each
 abbrev pub Slots : Type 0

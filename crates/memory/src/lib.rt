@@ -6,6 +6,7 @@ ghost use Rattle.entry.specs.Kind.{number_of};
 ghost use Rattle.entry.specs.Claim.{claim};
 ghost use Rattle.memory.specs.Map.{blank, refusal_number, answered, absorb, inserted, registered};
 ghost use Rattle.memory.specs.Made.{Made};
+ghost use Rattle.memory.specs.Run.{registered_all};
 
 use entry::{BootloaderMemoryKind, Claim, MemoryEntry};
 use numbers::Numbered;
@@ -114,6 +115,18 @@ impl MemoryMap {
             return Ok(());
         }
         self.insert(pages)
+    }
+
+    // Registers one claim after the other in a lent map, until one is refused. What it had registered stays then, so a source that is
+    // refused as a whole works on a copy.
+    pub fn register_all(&mut self, claims: &[Claim]) -> Result<(), MapRefusal>
+        requires { Made 4096 self.old }
+        ensures { answered self.new result ≡ registered_all 4096 self.old claims.now }
+    {
+        for claim in claims {
+            self.register_in(*claim)?;
+        }
+        Ok(())
     }
 
     // Registers a range by the number of its kind.

@@ -1,7 +1,8 @@
 // The number of an answer: a trait of the refusals, a definition, and the one law by which every theorem on a number is proved.
 #![tactic(auto)]
 
-ghost use Rattle.std.specs.Prelude.{◌≡◌, ℕ, Ok, Err};
+ghost use Rattle.std.specs.Prelude.{◌≡◌, ℕ};
+ghost use Rattle.numbers.specs.Number.{number_by};
 
 // What has a number that a caller gets back. Each enum of refusals says by `number_of` which case has which.
 pub trait Numbered {
@@ -13,7 +14,7 @@ pub trait Numbered {
 
 // "0 is done"; a refusal has its own.
 impl<T: Drop, E: Numbered> Numbered for Result<T, E> {
-    ghost number_of = { elim [ Ok _ ↦ 0 | Err e ↦ E.number_of e ] };
+    ghost number_of = { number_by E.number_of };
 
     fn number(self) -> u8 {
         match self {

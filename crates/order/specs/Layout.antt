@@ -1,4 +1,5 @@
 -- The order file: document 01, "Order file and report". Little-endian.
+use Rattle.numbers.specs.Number.{number_by}
 use Rattle.order.specs.declared.OrderFault.TheVariants.{BadOrder}
 use Rattle.order.specs.declared.OrderFault.{OrderFault}
 use Rattle.std.specs.Prelude.{◌≡◌, ℕ, ◌+◌, ◌*◌, ◌≤◌, ◌<◌, ◌%◌, ◌/◌, min, List, Bool, false, cond, ◌&&◌, ◌||◌, length, get_or, eqb, leb, ltb, Option, Some, None, Result, Ok, Err}
@@ -87,9 +88,11 @@ order_in s =
     }
 
 -- "Numbers a caller gets back"
+abbrev pub order_fault_number : OrderFault → ℕ
+order_fault_number BadOrder = 9
+
 abbrev pub order_number : Result Order OrderFault → ℕ
-order_number (Ok o) = 0
-order_number (Err BadOrder) = 9
+order_number = number_by order_fault_number
 
 -- 9: "order file breaks its layout, or is longer than 65,536"
 unfoldable pub order_of : List ℕ → Result Order OrderFault

@@ -3,18 +3,18 @@
 
 ghost use Rattle.std.specs.Prelude.{◌≡◌, ◌≤◌, ◌<◌, length, eqb, ◌||◌};
 ghost use Rattle.words.specs.Little.{eight};
-ghost use Rattle.order.specs.Layout.{limit_by, pair_at, good_order, order_in, order_number, order_of, file_end};
+ghost use Rattle.order.specs.Layout.{limit_by, pair_at, good_order, order_in, order_fault_number, order_of, file_end};
 
-use areas::Limit;
 use cells::Region;
 use fdt::Block;
+use numbers::Numbered;
 
 // What a station's order file says: the flags and limits, five ranges, and where its list and its tree stand.
 #[derive(Clone, Copy)]
 pub struct Order {
     pub arm: bool,
-    pub low: Limit,
-    pub high: Limit,
+    pub low: Option<u64>,
+    pub high: Option<u64>,
     pub kernel: Region,
     pub env: Region,
     pub hwdesc: Region,
@@ -24,20 +24,18 @@ pub struct Order {
     pub tree: Block,
 }
 
-// An order file, or that it breaks its layout.
+// Why an order file is refused: it breaks its layout.
 #[derive(Clone, Copy)]
-pub enum OrderRead {
-    Layout(Order),
+pub enum OrderFault {
     BadOrder,
 }
 
-impl OrderRead {
-    pub fn number(self) -> u8
-        ensures { result ≡ order_number self }
-    {
+impl Numbered for OrderFault {
+    ghost number_of = { order_fault_number };
+
+    fn number(self) -> u8 {
         match self {
-            OrderRead::Layout(_) => 0,
-            OrderRead::BadOrder => 9,
+            OrderFault::BadOrder => 9,
         }
     }
 }
@@ -91,13 +89,13 @@ fn good_order(s: &[u8]) -> bool
 }
 
 // The limit at a place, missing where it is not flagged.
-fn limit_by(s: &[u8], flagged: bool, at: usize) -> Limit
+fn limit_by(s: &[u8], flagged: bool, at: usize) -> Option<u64>
     ensures { result ≡ limit_by flagged (eight s.now at) }
 {
     if flagged {
-        return Limit::At(words::le64(s, at));
+        return Some(words::le64(s, at));
     }
-    Limit::Missing
+    None
 }
 
 // One of the five pairs.
@@ -136,13 +134,13 @@ fn order_in(s: &[u8]) -> Order
 }
 
 // Reads an order file.
-pub fn read_order(s: &[u8]) -> OrderRead
+pub fn read_order(s: &[u8]) -> Result<Order, OrderFault>
     ensures { result ≡ order_of s.now }
 {
     if !good_order(s) {
-        return OrderRead::BadOrder;
+        return Err(OrderFault::BadOrder);
     }
-    OrderRead::Layout(order_in(s))
+    Ok(order_in(s))
 }
 
 // How many bytes at the start of the input are the order file, by its header, so that a caller can put something behind it.

@@ -107,7 +107,7 @@ module _ (b n block : List ℕ) (arm : Bool) where
   follows_yield : (o : Option Claim) (c d : Cursor) → script b n block arm c ≡ o ∷ script b n block arm d → Stands b n d.next
       → Follows b n block arm c (yields o d)
   follows_yield None c d e s = (e, s)
-  follows_yield (Some x) c d e s = (x, refl, e, s)
+  follows_yield (Some x) c d e s = (e, s)
 
   -- past the children of a rule
   after_is : (way : Way) → script b n block arm (after_at b n arm way) ≡ after_on arm (root_at b n) way
@@ -146,10 +146,10 @@ module _ (b n block : List ℕ) (arm : Bool) where
       where
         go : (i : ℕ)
             → Follows b n block arm (cursor_at Virt i value next own parent length ranges) (virt_step (cursor_at Virt i value next own parent length ranges))
-        go zero = (_, refl, refl, stands)
+        go zero = (refl, stands)
         go (suc i) =
             let z : eqb (suc i) 0 ≡ false = ne_eqb (suc i) 0 (λ e. omega arith) in
-            rw z (_, refl, rw z, refl)
+            rw z (rw z, refl)
 
     abbrev table : Table Range
     table = ranges_of own parent length (part_of b ranges.at ranges.len)

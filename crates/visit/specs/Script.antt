@@ -26,7 +26,6 @@ use Rattle.visit.specs.declared.Stage.TheVariants.{Entries, Children, Virt, Cons
 use Rattle.visit.specs.declared.Cursor.{Cursor}
 use Rattle.visit.specs.declared.Step.{Step}
 use Rattle.visit.specs.declared.Step.TheVariants.{Claims, On, End}
-use Rattle.visit.specs.Steps.{claimed}
 
 -- the claims among the steps
 unfoldable pub claims_in : List (Option Claim) → List Claim
@@ -104,6 +103,6 @@ module _ (b n block : List ℕ) (arm : Bool) where
 
   -- what a step does to what is left
   abbrev pub Follows : Cursor → Step → Type 0
-  Follows c (Claims x d) = (y : Claim) × (x ≡ claimed y) × (script c ≡ Some y ∷ script d) × Stands b n d.next
+  Follows c (Claims x d) = (script c ≡ Some x ∷ script d) × Stands b n d.next
   Follows c (On d) = (script c ≡ None ∷ script d) × Stands b n d.next
   Follows c End = script c ≡ []

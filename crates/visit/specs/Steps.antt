@@ -29,7 +29,6 @@ use Rattle.claims.specs.Values.{child_value}
 use Rattle.visit.specs.declared.Stage.{Stage}
 use Rattle.visit.specs.declared.Stage.TheVariants.{Entries, Children, Virt, Console, Over}
 use Rattle.visit.specs.declared.Cursor.{Cursor}
-use Rattle.visit.specs.declared.Claimed.{Claimed}
 use Rattle.visit.specs.declared.Step.{Step}
 use Rattle.visit.specs.declared.Step.TheVariants.{Claims, On, End}
 
@@ -94,12 +93,9 @@ enter_at b n way =
     (parent_at b n way)
 
 -- ── A step ──
-abbrev pub claimed : Claim → Claimed
-claimed c = record { base = c.base; size = c.size; kind = c.kind }
-
 abbrev pub yields : Option Claim → Cursor → Step
 yields None c = On c
-yields (Some x) c = Claims (claimed x) c
+yields (Some x) c = Claims x c
 
 abbrev pub entry_step : List ℕ → List ℕ → Reservation → Cursor → Step
 entry_step b n (Entry r) c = yields (block_claim r) (next_row c)
@@ -132,8 +128,8 @@ module _ (b n : List ℕ) (arm : Bool) where
 unfoldable pub virt_step : Cursor → Step
 virt_step c =
     cond (eqb c.row 0)
-    (Claims (claimed (claim 0x08000000 0x08000000 (number_of Device))) (next_row c))
-    (Claims (claimed (claim 0x10000000 0x30000000 (number_of Device))) (start_at Over))
+    (Claims (claim 0x08000000 0x08000000 (number_of Device)) (next_row c))
+    (Claims (claim 0x10000000 0x30000000 (number_of Device)) (start_at Over))
 
 module _ (b n block : List ℕ) (arm : Bool) where
   abbrev pub stage_step : Stage → Cursor → Step

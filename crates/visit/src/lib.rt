@@ -16,17 +16,10 @@ ghost use Rattle.visit.specs.declared.Stage.TheVariants.{Entries};
 
 use cells::{CellCount, RegRow, Region};
 use claims::Way;
+use entry::Claim;
 use fdt::Block;
 use reservations::Reservation;
 use windows::Window;
-
-// What is claimed of memory.
-#[derive(Clone, Copy)]
-pub struct Claimed {
-    pub base: u64,
-    pub size: u64,
-    pub kind: u64,
-}
 
 // The sources of a tree's claims: the reservation block, rows of children by their rule, the ranges of a virtual board, the console.
 #[derive(Clone, Copy)]
@@ -55,7 +48,7 @@ pub struct Cursor {
 // A step gives a claim or none, and where to go on; or all is claimed.
 #[derive(Clone, Copy)]
 pub enum Step {
-    Claims(Claimed, Cursor),
+    Claims(Claim, Cursor),
     On(Cursor),
     End,
 }
@@ -204,7 +197,7 @@ fn visit_fdt_memory_reservations<'a>(
         return Step::On(next);
     }
     Step::Claims(
-        Claimed {
+        Claim {
             base: entry.address,
             size: entry.size,
             kind: 3,
@@ -277,7 +270,7 @@ fn region_step(structure: &[u8], way: Way, cursor: Cursor, region: Region, next:
         region.size,
     ) {
         Window::To(base) => Step::Claims(
-            Claimed {
+            Claim {
                 base,
                 size: region.size,
                 kind: way.kind(),
@@ -319,7 +312,7 @@ fn virt_step(cursor: Cursor) -> Step
 {
     if cursor.row == 0 {
         return Step::Claims(
-            Claimed {
+            Claim {
                 base: 0x0800_0000,
                 size: 0x0800_0000,
                 kind: 0x101,
@@ -328,7 +321,7 @@ fn virt_step(cursor: Cursor) -> Step
         );
     }
     Step::Claims(
-        Claimed {
+        Claim {
             base: 0x1000_0000,
             size: 0x3000_0000,
             kind: 0x101,
@@ -344,7 +337,7 @@ fn console_step<'a>(structure: &'a [u8], strings: &'a [u8]) -> Step
     let next = enter(structure, strings, Way::Controllers);
     match stdout::diag_uart_range(structure, strings) {
         Some(region) => Step::Claims(
-            Claimed {
+            Claim {
                 base: region.address,
                 size: region.size,
                 kind: 0x101,

@@ -1,8 +1,7 @@
--- `register_claims_in` registers the claims in turn. The invariant: what is left to claim, on the arrays as they are, ends as all the claims
--- of the tree do. The measure is the number of steps that are left.
+-- `register_claims_in` registers the claims in turn. The invariant: what is left to claim, on the map as it is, ends as all the claims of the
+-- tree do. The measure is the number of steps that are left.
 use mathlib.Core.Path.{◌≡◌}
 use lib.ListN.{length}
-use Rattle.memory.specs.Map.{map_of}
 use Rattle.memory.specs.Made.{Made}
 use Rattle.memory.specs.Run.{registered_all}
 use Rattle.reservations.specs.Reservations.{entries_of}
@@ -12,10 +11,10 @@ use Rattle.visit.specs.Script.{claims_in, script}
 use Rattle.dtb.proofs.register_claims_in.Given as goal
 
 abbrev pub invariant-loop-claim : goal.invariant-loop-claim
-invariant-loop-claim l = Made 4096 (map_of l.starts l.ends l.kinds l.held)
+invariant-loop-claim l = Made 4096 l.map
     × Stands l.structure l.strings l.cursor.next
-    × (registered_all 4096 (map_of l.starts l.ends l.kinds l.held) (claims_in (script l.structure l.strings l.block l.arm l.cursor))
-    ≡ registered_all 4096 (map_of l.initial.starts l.initial.ends l.initial.kinds l.size) (claims_of l.arm (entries_of l.block) (root_at l.structure l.strings)))
+    × (registered_all 4096 l.map (claims_in (script l.structure l.strings l.block l.arm l.cursor))
+    ≡ registered_all 4096 l.fn.map (claims_of l.arm (entries_of l.block) (root_at l.structure l.strings)))
 
 abbrev pub decreases-loop-claim : goal.decreases-loop-claim
 decreases-loop-claim l = length (script l.structure l.strings l.block l.arm l.cursor)
