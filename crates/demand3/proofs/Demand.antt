@@ -1,6 +1,6 @@
 -- Demand 3: the address rule, the shape of the areas, and that no order of the registrations matters. For every page size. Assumes nothing.
 use Rattle.areas.specs.declared.AreasRefusal.{AreasRefusal}
-use Rattle.std.specs.Prelude.{Option, None, ℕ, Result}
+use Rattle.std.specs.Prelude.{Option, Some as At, None, ℕ, Result}
 use mathlib.Core.Path.{◌≡◌, refl, ap, sym, ◌∙◌}
 use mathlib.Core.List.{List}
 use mathlib.Core.Logic.{◌↔◌}
@@ -141,12 +141,12 @@ unfolding areas_of
 same_limits p low high low' high' m e = ap (λ (limits : MemoryEntry). areas_in limits (held m)) e
 
 -- a missing low is a low of 0
-pub missing_low : (p : ℕ) (high : Option ℕ) → SameLimits p None high (Some 0) high
+pub missing_low : (p : ℕ) (high : Option ℕ) → SameLimits p None high (At 0) high
 unfolding limit_of
 missing_low p high = refl
 
 -- a missing high is any high in the top page
-pub missing_high : (p : ℕ) (low : Option ℕ) (x : ℕ) → Page p → top p ≤ x → x < 2 ^ 64 → SameLimits p low None low (Some x)
+pub missing_high : (p : ℕ) (low : Option ℕ) (x : ℕ) → Page p → top p ≤ x → x < 2 ^ 64 → SameLimits p low None low (At x)
 unfolding limit_of
 missing_high p low x g from to = ap (λ (end : ℕ). entry (up p (or_else low 0)) end (number_of Free)) (at_top (2 ^ 64 - 1) last (omega arith) ∙ sym (at_top x from to))
   where

@@ -23,9 +23,9 @@ use Rattle.demand3.specs.Refusal.{Answers}
 
 -- 3 is the number of one case, and 0 of the other
 pub built_names : Names built_number
-built_names = record { back = λ _. (Err TooManyAreas); named = go }
+built_names = record { back = λ _. Err TooManyAreas; named = go }
   where
-    go : (r : Result ℕ AreasRefusal) → (built_number r ≡ 0) ⊎ ((Err TooManyAreas) ≡ r)
+    go : (r : Result ℕ AreasRefusal) → (built_number r ≡ 0) ⊎ (Err TooManyAreas ≡ r)
     go (Ok n) = inl refl
     go (Err TooManyAreas) = inr refl
 
@@ -49,7 +49,7 @@ module _ (slots : ℕ) (areas : List Interval) where
       go false e q = omega arith
 
 -- THEOREM, refusal 3 and what is written: in any form of slots
-pub answers : {A : Type 0} {f : Form A} {areas : List Interval} {l l' : List A} {r : (Result ℕ AreasRefusal)} → BuildsIn f areas l l' r → Answers f areas l l' r
+pub answers : {A : Type 0} {f : Form A} {areas : List Interval} {l l' : List A} {r : Result ℕ AreasRefusal} → BuildsIn f areas l l' r → Answers f areas l l' r
 answers {A} {f} {areas} {l} {l'} {r} b =
     let three : (built_number r ≡ 3) ↔ (f.slots l < length areas) = rw b.answer (number_3 (f.slots l) areas) in
     let zero : (built_number r ≡ 0) ↔ (length areas ≤ f.slots l) = rw b.answer (number_0 (f.slots l) areas) in
@@ -62,7 +62,7 @@ answers {A} {f} {areas} {l} {l'} {r} b =
     }
 
 -- ── The two forms that there are, from what the contracts of the two `build` state ──
-module _ {p : ℕ} {m : MemoryMap} {low high : (Option ℕ)} {r : (Result ℕ AreasRefusal)} where
+module _ {p : ℕ} {m : MemoryMap} {low high : Option ℕ} {r : Result ℕ AreasRefusal} where
   pub in_numbers : {l l' : List ℕ} → Builds p m low high l l' r → BuildsIn numbers (areas_of p low high m) l l' r
   unfolding answer_of table_of
   in_numbers b = record { answer = b.answer; after = b.table }

@@ -92,7 +92,7 @@ module _ (areas : List Interval) (slot : ℕ → MemoryArea)
     pub held_apart : (i : ℕ) → suc i < length areas → (slot i).base + (slot i).size < (slot (suc i)).base
     held_apart i h = omega (arith, nth_apart areas 0 i shape.ascend h, end_is i (omega arith), base_is (suc i) h)
 
-    pub held_right : {low high : (Option ℕ)} {cs : List Claim} → ((x : ℕ) → Listed x areas ↔ Rule p low high cs x) → SlotsRight p low high cs slot (length areas)
+    pub held_right : {low high : Option ℕ} {cs : List Claim} → ((x : ℕ) → Listed x areas ↔ Rule p low high cs x) → SlotsRight p low high cs slot (length areas)
     held_right rule =
         record {
           rule = λ x. let l = held_listed x in let r = rule x in (λ s. r.0 (l.0 s), λ s. l.1 (r.1 s));

@@ -1,6 +1,6 @@
 -- Refusal 3, on its number, and what is written: stated once for every form of slots.
 use Rattle.areas.specs.declared.AreasRefusal.{AreasRefusal}
-use Rattle.std.specs.Prelude.{◌≡◌, List, ◌++◌, ◌↔◌, ◌≤◌, ◌<◌, length, drop, Result, Ok}
+use Rattle.std.specs.Prelude.{◌≡◌, List, ◌++◌, ◌↔◌, ℕ, ◌≤◌, ◌<◌, length, drop, Result, Ok}
 use Rattle.areas.specs.Interval.{Interval}
 use Rattle.areas.specs.Table.{built_number, Form}
 
