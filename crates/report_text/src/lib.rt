@@ -8,9 +8,10 @@ ghost use Rattle.report_text.specs.LateText.{labelled, last_line, lines_of, late
 ghost use Rattle.report_text.specs.Writing.{Writes};
 ghost use Rattle.startup.specs.Report.{slots_after};
 
-use late_claim::LateAnswer;
-use sheet::{PageSheet, ShareBits};
-use startup::Report;
+use late_claim::LateRefusal;
+use numbers::Numbered;
+use sheet::PageSheet;
+use startup::{Refusal, Summary};
 
 // Puts some bytes at a place of the buffer, and answers the place behind them.
 fn put(out: &mut [u8], at: usize, bytes: &[u8]) -> usize
@@ -48,8 +49,8 @@ fn put_share(out: &mut [u8], at: usize, sheet: PageSheet) -> usize
     ensures { Writes out.old at (share_text sheet) out.new result }
 {
     match sheet::share_bits(sheet.free, sheet.usable) {
-        ShareBits::NoBits => put(out, at, b"none"),
-        ShareBits::Bits(bits) => put_hex(out, at, bits),
+        Some(bits) => put_hex(out, at, bits),
+        None => put(out, at, b"none"),
     }
 }
 
@@ -111,23 +112,24 @@ fn put_refusal(out: &mut [u8], number: u8) -> usize
 fn listed(n: usize) -> usize
     ensures { (result ≤ n) × (result ≤ 512) × (result ≡ min n 512) }
 {
-    if 512 < n {
-        return 512;
-    }
-    n
+    n.min(512)
 }
 
 // The text of a report and the slots that it was made in, at the start of the buffer; the rest of the buffer stays. Answers how long the
 // text is. The buffer holds the longest text that there can be: 512 areas, and numbers of 20 digits.
-pub fn text(report: Report, slots: &[u64; 1024], out: &mut [u8; 17500]) -> usize
+pub fn text(
+    report: Result<Summary, Refusal>,
+    slots: &[u64; 1024],
+    out: &mut [u8; 17500],
+) -> usize
     ensures { Writes out.old 0 (text_of report slots.now) out.new result }
 {
     match report {
-        Report::Refused(refusal) => put_refusal(out, refusal.number()),
-        Report::Done(n, sheet) => {
-            let a = put_count(out, 0, n);
-            let b = put_areas(out, a, slots, listed(n));
-            put_pages(out, b, sheet)
+        Err(refusal) => put_refusal(out, refusal.number()),
+        Ok(summary) => {
+            let a = put_count(out, 0, summary.count);
+            let b = put_areas(out, a, slots, listed(summary.count));
+            put_pages(out, b, summary.sheet)
         }
     }
 }
@@ -151,7 +153,7 @@ fn put_labelled(out: &mut [u8], at: usize, word: &[u8], n: u64) -> usize
 }
 
 // How many claims were made; or the number of the refusal and the index of its claim.
-fn put_last(out: &mut [u8], at: usize, answer: LateAnswer, index: usize) -> usize
+fn put_last(out: &mut [u8], at: usize, answer: Result<(), LateRefusal>, index: usize) -> usize
     requires { at + 53 ≤ length out.old }
     ensures { Writes out.old at (last_line answer index) out.new result }
 {
@@ -171,7 +173,7 @@ fn put_run(
     out: &mut [u8; 17500],
     slots: &[u64; 1024],
     count: usize,
-    answer: LateAnswer,
+    answer: Result<(), LateRefusal>,
     index: usize,
 ) -> usize
     ensures { Writes out.old 0 (lines_of count slots.now answer index) out.new result }
@@ -189,13 +191,11 @@ pub fn late(input: &[u8], slots: &mut [u64; 1024], out: &mut [u8; 17500]) -> usi
 {
     let end = order::file_end(input);
     let start = startup::init_map(&input[..end], slots);
-    let report = start.report;
-    match report {
-        Report::Refused(refusal) => put_refusal(out, refusal.number()),
-        Report::Done(n, _) => {
-            let run = late_run::claim_all(start.map, slots, n, &input[end..]);
-            let answer = run.answer;
-            put_run(out, slots, run.count, answer, run.index)
+    match start.report {
+        Err(refusal) => put_refusal(out, refusal.number()),
+        Ok(summary) => {
+            let run = late_run::claim_all(start.map, slots, summary.count, &input[end..]);
+            put_run(out, slots, run.count, run.answer, run.index)
         }
     }
 }

@@ -15,19 +15,19 @@ claim_all-run-requires c =
     let e = b in
     start_made e.args.input.now e.file_end-end.ensures.value b.init_map-start.ensures page
 
-pub returns-in-Refused : goal.returns-in-Refused
-returns-in-Refused c =
+pub returns-in-Err : goal.returns-in-Err
+returns-in-Err c =
     let b = c in
     let e = b in
     let s = e.args.input.now in
-    let d = c.in-Refused.is in
+    let d = c.in-Err.is in
     record { writes = same_text c.put_refusal.ensures (text_refused s e.file_end-end.ensures.value b.init_map-start.ensures d c.number.ensures); slots_after = slots_refused s e.file_end-end.ensures.value b.init_map-start.ensures d }
 
-pub returns-in-Done : goal.returns-in-Done
-returns-in-Done c =
+pub returns-in-Ok : goal.returns-in-Ok
+returns-in-Ok c =
     let r = c in
     let d = r in
     let b = d in
     let e = b in
     let s = e.args.input.now in
-    record { writes = same_text c.put_run.ensures (text_done s e.file_end-end.ensures.value b.init_map-start.ensures d.in-Done.is r.claim_all-run.ensures); slots_after = slots_done s e.file_end-end.ensures.value b.init_map-start.ensures d.in-Done.is r.claim_all-run.ensures }
+    record { writes = same_text c.put_run.ensures (text_done s e.file_end-end.ensures.value b.init_map-start.ensures d.in-Ok.is r.claim_all-run.ensures); slots_after = slots_done s e.file_end-end.ensures.value b.init_map-start.ensures d.in-Ok.is r.claim_all-run.ensures }

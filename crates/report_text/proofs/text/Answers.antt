@@ -11,7 +11,7 @@ use Rattle.report_text.proofs.text.Goals as goal
 pub put_areas-b-requires : goal.put_areas-b-requires
 put_areas-b-requires c =
     let a = c.args in
-    let few = count_length c.in-Done.n in
+    let few = count_length c.in-Ok.summary.count in
     let slots : length a.slots.now ≡ 1024 = search rules in
     let room : length a.out.now ≡ 17500 = search rules in
     let end = c.put_count-a.ensures.end in
@@ -22,7 +22,7 @@ pub put_pages-requires : goal.put_pages-requires
 put_pages-requires c =
     let d = c in
     let a = d.args in
-    let few = count_length d.in-Done.n in
+    let few = count_length d.in-Ok.summary.count in
     let lines = areas_length a.slots.now c.listed.result 0 in
     let room : length a.out.now ≡ 17500 = search rules in
     let first = d.put_count-a.ensures.end in
@@ -31,20 +31,20 @@ put_pages-requires c =
     let same = kept c.put_areas-b.ensures (omega arith) in
     omega arith
 
-pub returns-in-Refused : goal.returns-in-Refused
-returns-in-Refused c =
+pub returns-in-Err : goal.returns-in-Err
+returns-in-Err c =
     same_text c.put_refusal.ensures
-    (refused_text c.args.slots.now c.in-Refused.is c.number.ensures)
+    (refused_text c.args.slots.now c.in-Err.is c.number.ensures)
 
-pub returns-in-Done : goal.returns-in-Done
-returns-in-Done c =
+pub returns-in-Ok : goal.returns-in-Ok
+returns-in-Ok c =
     let d = c in
     let a = d.args in
-    let few = count_length d.in-Done.n in
+    let few = count_length d.in-Ok.summary.count in
     let room : length a.out.now ≡ 17500 = search rules in
     let slots : length a.slots.now ≡ 1024 = search rules in
     let end = d.put_count-a.ensures.end in
     let size = kept d.put_count-a.ensures (omega arith) in
     same_text
     (writes_append d.put_count-a.ensures (writes_append c.put_areas-b.ensures c.put_pages.ensures (omega arith)) (omega arith))
-    (done_text a.slots.now d.in-Done.is slots c.listed.ensures.2)
+    (done_text a.slots.now d.in-Ok.is slots c.listed.ensures.2)
