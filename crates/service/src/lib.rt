@@ -12,8 +12,8 @@ ghost use Rattle.map_numbers.specs.Numbers.{map_in, numbers_of};
 ghost use Rattle.service.specs.Plain.{has_share, share_float, plain_of};
 ghost use Rattle.service.specs.Late.{memory_after, plain_late};
 
-use sheet::Share;
-use startup::Report;
+use numbers::Numbered;
+use startup::{Refusal, Summary};
 
 // What a build answers, in plain fields: 0 or the number of the refusal; how many areas were written; the Free and the usable pages;
 // whether there is a share, 0 or 1, and the share. A refusal has 0 in every field but the first.
@@ -37,31 +37,31 @@ pub struct WharfthrumLate {
 }
 
 // Whether there is a share.
-fn has_share(share: Share) -> u64
+fn has_share(share: Option<f64>) -> u64
     ensures { result ≡ has_share share }
 {
     match share {
-        Share::NoFree => 0,
-        Share::Of(_) => 1,
+        None => 0,
+        Some(_) => 1,
     }
 }
 
 // The share, or 0.0 where there is none.
-fn share_or_zero(share: Share) -> f64
+fn share_or_zero(share: Option<f64>) -> f64
     ensures { result ≡ share_float share }
 {
     match share {
-        Share::NoFree => 0.0,
-        Share::Of(x) => x,
+        None => 0.0,
+        Some(x) => x,
     }
 }
 
 // A report in plain fields.
-fn plain(report: Report) -> WharfthrumReport
+fn plain(report: Result<Summary, Refusal>) -> WharfthrumReport
     ensures { result ≡ plain_of report }
 {
     match report {
-        Report::Refused(refusal) => WharfthrumReport {
+        Err(refusal) => WharfthrumReport {
             number: refusal.number() as u64,
             count: 0,
             free: 0,
@@ -69,17 +69,14 @@ fn plain(report: Report) -> WharfthrumReport
             has_share: 0,
             share: 0.0,
         },
-        Report::Done(count, sheet) => {
-            let share = sheet.share;
-            WharfthrumReport {
-                number: 0,
-                count: count as u64,
-                free: sheet.free,
-                usable: sheet.usable,
-                has_share: has_share(share),
-                share: share_or_zero(share),
-            }
-        }
+        Ok(Summary { count, sheet }) => WharfthrumReport {
+            number: 0,
+            count: count as u64,
+            free: sheet.free,
+            usable: sheet.usable,
+            has_share: has_share(sheet.share),
+            share: share_or_zero(sheet.share),
+        },
     }
 }
 
@@ -127,12 +124,11 @@ pub extern "C" fn wharfthrum_build_map(
     ensures map_after { map.new ≡ memory_after 4096 file.now slots.old map.old }
 {
     let start = startup::init_map(file, slots);
-    let report = start.report;
-    let Report::Done(_, _) = report else {
-        return plain(report);
+    let Ok(_) = start.report else {
+        return plain(start.report);
     };
     map_numbers::store(map, start.map);
-    plain(report)
+    plain(start.report)
 }
 
 // A late claim on the map in the lent numbers and on a finished table, of which `count` slots are used. What it asks of those numbers
@@ -152,10 +148,9 @@ pub extern "C" fn wharfthrum_claim_late(
     ensures map_after { map.new ≡ numbers_of (late_of 4096 (map_in map.old) (claim base size kind) count slots.old).map }
 {
     let late = late_claim::claim_late(map_numbers::load(map), base, size, kind, slots, count);
-    let answer = late.answer;
     map_numbers::store(map, late.map);
     WharfthrumLate {
-        number: answer.number() as u64,
+        number: late.answer.number() as u64,
         count: late.count as u64,
     }
 }

@@ -2,10 +2,10 @@
 use lib.Ieee
 use Rattle.service.proofs.plain.Goals as goal
 
-pub returns-in-Refused : goal.returns-in-Refused
+pub returns-in-Err : goal.returns-in-Err
 unfolding Ieee.of_bits
-returns-in-Refused c = rw (c.in-Refused.is, c.number.ensures)
+returns-in-Err c = rw (c.in-Err.is, c.number.ensures)
 
-pub returns-in-Done : goal.returns-in-Done
-returns-in-Done c =
-    rw (c.in-Done.is, c.has_share.ensures, c.share_or_zero.ensures)
+pub returns-in-Ok : goal.returns-in-Ok
+returns-in-Ok c =
+    rw (c.in-Ok.is, c.has_share.ensures, c.share_or_zero.ensures)

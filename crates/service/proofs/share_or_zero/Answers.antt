@@ -4,6 +4,6 @@ use lib.Ieee
 use Rattle.service.specs.Plain.{share_float}
 use Rattle.service.proofs.share_or_zero.Goals as goal
 
-pub returns-in-NoFree : goal.returns-in-NoFree
+pub returns-in-None : goal.returns-in-None
 unfolding Ieee.of_bits
-returns-in-NoFree c = sym (ap share_float c.in-NoFree.is)
+returns-in-None c = sym (ap share_float c.in-None.is)

@@ -14,4 +14,4 @@ pub returns : goal.returns
 returns c =
     let d = c in
     let h = d.init_map-start.ensures in
-    record { value = c.plain-2.ensures ∙ ap plain_of h.reports.report; slots_after = h.reports.slots; map_after = left_done 4096 _ _ _ _ h.reports.report d.in-Done.is h.map c.store.ensures }
+    record { value = c.plain-2.ensures ∙ ap plain_of h.reports.report; slots_after = h.reports.slots; map_after = left_done 4096 _ _ _ _ h.reports.report d.in-Ok.is h.map c.store.ensures }
