@@ -58,7 +58,8 @@ pub struct Claim {
     pub kind: u64,
 }
 
-// The addresses from start up to, not including, end, and the number of their kind.
+// The addresses from start up to, not including, end, and the number of their kind. Its layout is C's, so that an export can be lent entries.
+#[repr(C)]
 #[derive(Clone, Copy)]
 pub struct MemoryEntry {
     pub start: u64,
