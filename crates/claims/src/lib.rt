@@ -12,7 +12,7 @@ ghost use Rattle.claims.specs.Values.{child_value, dynamic_at};
 ghost use Rattle.claims.specs.declared.Way.TheVariants.{Reserve, Controllers};
 
 use cells::{CellCount, RangeRow, RegRow};
-use fdt::Block;
+use fdt::{Block, Tree};
 use numbers::Numbered;
 use windows::Window;
 
@@ -86,19 +86,18 @@ pub fn lands(
 
 // The value of `alloc-ranges` of a dynamic reservation, where it leaves no choice.
 fn dynamic_value<'a>(
-    structure: &'a [u8],
-    strings: &'a [u8],
+    tree: Tree<'a>,
     child: usize,
     address: CellCount,
     size: CellCount,
 ) -> Option<Block>
-    ensures { result ≡ dynamic_at structure.now address size (prop_at structure.now strings.now child size_name) (prop_at structure.now strings.now child alloc_ranges_name) }
+    ensures { result ≡ dynamic_at tree.entry.structure.now address size (prop_at tree.entry.structure.now tree.entry.strings.now child size_name) (prop_at tree.entry.structure.now tree.entry.strings.now child alloc_ranges_name) }
 {
-    let bytes = nodes::getprop(structure, strings, child, b"size")?;
-    let ranges = nodes::getprop(structure, strings, child, b"alloc-ranges")?;
+    let bytes = nodes::getprop(tree, child, b"size")?;
+    let ranges = nodes::getprop(tree, child, b"alloc-ranges")?;
     reserved::visit_exact_dynamic_reserved_memory_range(
-        words::part(structure, bytes.at, bytes.len),
-        words::part(structure, ranges.at, ranges.len),
+        words::part(tree.structure, bytes.at, bytes.len),
+        words::part(tree.structure, ranges.at, ranges.len),
         address,
         size,
     )?;
@@ -107,81 +106,79 @@ fn dynamic_value<'a>(
 
 // The value of a reserved child's entries: its `reg`, or that of an exact dynamic reservation.
 fn reserved_value<'a>(
-    structure: &'a [u8],
-    strings: &'a [u8],
+    tree: Tree<'a>,
     child: usize,
     address: CellCount,
     size: CellCount,
 ) -> Option<Block>
-    ensures { result ≡ child_value structure.now strings.now Reserve address size child }
+    ensures { result ≡ child_value tree.entry.structure.now tree.entry.strings.now Reserve address size child }
 {
-    if !reserved::reserved_memory_node_is_available(structure, strings, child) {
+    if !reserved::reserved_memory_node_is_available(tree, child) {
         return None;
     }
-    match nodes::getprop(structure, strings, child, b"reg") {
+    match nodes::getprop(tree, child, b"reg") {
         Some(reg) => Some(reg),
-        None => dynamic_value(structure, strings, child, address, size),
+        None => dynamic_value(tree, child, address, size),
     }
 }
 
 // The value whose entries a child claims, by the rule and the cells of its parent.
 pub fn child_value<'a>(
-    structure: &'a [u8],
-    strings: &'a [u8],
+    tree: Tree<'a>,
     way: Way,
     address: CellCount,
     size: CellCount,
     child: usize,
 ) -> Option<Block>
-    ensures { result ≡ child_value structure.now strings.now way address size child }
+    ensures { result ≡ child_value tree.entry.structure.now tree.entry.strings.now way address size child }
 {
     match way {
-        Way::Reserve => reserved_value(structure, strings, child, address, size),
-        Way::Soc => nodes::getprop(structure, strings, child, b"reg"),
+        Way::Reserve => reserved_value(tree, child, address, size),
+        Way::Soc => nodes::getprop(tree, child, b"reg"),
         Way::Controllers => {
-            nodes::getprop(structure, strings, child, b"interrupt-controller")?;
-            nodes::getprop(structure, strings, child, b"reg")
+            nodes::getprop(tree, child, b"interrupt-controller")?;
+            nodes::getprop(tree, child, b"reg")
         }
     }
 }
 
 // Whether the tree is that of a virtual board whose devices the build knows.
 #[tactic(auto, unfolding(crate::specs::Claims::is_virt))]
-pub fn is_qemu_virt<'a>(structure: &'a [u8], strings: &'a [u8], arm: bool) -> bool
-    ensures { result ≡ is_virt arm (root_at structure.now strings.now) }
+pub fn is_qemu_virt<'a>(tree: Tree<'a>, arm: bool) -> bool
+    ensures { result ≡ is_virt arm (root_at tree.entry.structure.now tree.entry.strings.now) }
 {
     if !arm {
         return false;
     }
-    let Some(root) = nodes::path_offset(structure, strings, b"/") else {
+    let Some(root) = nodes::path_offset(tree, b"/") else {
         return false;
     };
-    let Some(model) = text::string_of(structure, strings, root, b"model") else {
+    let Some(model) = text::string_of(tree, root, b"model") else {
         return false;
     };
     text::holds(
-        words::part(structure, model.at, model.len),
+        words::part(tree.structure, model.at, model.len),
         b"linux,dummy-virt",
     )
 }
 
 // Whether a child is what some_child looks for.
 fn child_is<'a>(
-    structure: &'a [u8],
-    strings: &'a [u8],
+    tree: Tree<'a>,
     child: usize,
     address: CellCount,
     size: CellCount,
     reserved: bool,
 ) -> bool
-    ensures { result ≡ child_is reserved address size (props_of (node_at structure.now strings.now child)) }
+    ensures { result ≡ child_is reserved address size (props_of (node_at tree.entry.structure.now tree.entry.strings.now child)) }
 {
-    let Some(reg) = nodes::getprop(structure, strings, child, b"reg") else {
+    let Some(reg) = nodes::getprop(tree, child, b"reg") else {
         return false;
     };
-    let first = cells::reg_row(words::part(structure, reg.at, reg.len), address, size, 0);
+    let value = words::part(tree.structure, reg.at, reg.len);
+    let first = cells::reg_row(value, address, size, 0);
     if reserved {
-        if !reserved::reserved_memory_node_is_available(structure, strings, child) {
+        if !reserved::reserved_memory_node_is_available(tree, child) {
             return false;
         }
         return match first {
@@ -199,65 +196,64 @@ fn child_is<'a>(
 
 // Whether some child from a first one on is a counted reserved one with an unreadable `reg`, or else has a readable entry.
 fn some_child<'a>(
-    structure: &'a [u8],
-    strings: &'a [u8],
+    tree: Tree<'a>,
     first: Option<usize>,
     address: CellCount,
     size: CellCount,
     reserved: bool,
 ) -> bool
-    requires { Stands structure.now strings.now first }
-    ensures { result ≡ some_kid reserved address size (at structure.now strings.now first) }
+    requires { Stands tree.structure.now tree.strings.now first }
+    ensures { result ≡ some_kid reserved address size (at tree.entry.structure.now tree.entry.strings.now first) }
 {
     let mut child = first;
     while let Some(node) = child {
-        if child_is(structure, strings, node, address, size, reserved) {
+        if child_is(tree, node, address, size, reserved) {
             return true;
         }
-        child = nodes::next_subnode(structure, strings, node);
+        child = nodes::next_subnode(tree, node);
     }
     false
 }
 
 // Whether a counted child of /reserved-memory has a `reg` that cannot be read.
-fn bad_reg<'a>(structure: &'a [u8], strings: &'a [u8], root: usize) -> bool
-    ensures { result ≡ bad_reg (node_at structure.now strings.now root) }
+fn bad_reg<'a>(tree: Tree<'a>, root: usize) -> bool
+    ensures { result ≡ bad_reg (node_at tree.entry.structure.now tree.entry.strings.now root) }
 {
-    let Some(node) = nodes::subnode(structure, strings, root, b"reserved-memory") else {
+    let Some(node) = nodes::subnode(tree, root, b"reserved-memory") else {
         return false;
     };
-    if !reserved::children_count(structure, strings, root, node) {
+    if !reserved::children_count(tree, root, node) {
         return false;
     }
-    let first = nodes::first_subnode(structure, strings, node);
-    let address = nodes::address_cells(structure, strings, node);
-    let size = nodes::size_cells(structure, strings, node);
-    some_child(structure, strings, first, address, size, true)
+    let first = nodes::first_subnode(tree, node);
+    let address = nodes::address_cells(tree, node);
+    let size = nodes::size_cells(tree, node);
+    some_child(tree, first, address, size, true)
 }
 
 // Whether an entry of /soc's children meets a `ranges` that cannot be read.
-fn bad_ranges<'a>(structure: &'a [u8], strings: &'a [u8], root: usize) -> bool
-    ensures { result ≡ bad_ranges (node_at structure.now strings.now root) }
+fn bad_ranges<'a>(tree: Tree<'a>, root: usize) -> bool
+    ensures { result ≡ bad_ranges (node_at tree.entry.structure.now tree.entry.strings.now root) }
 {
-    let Some(soc) = nodes::subnode(structure, strings, root, b"soc") else {
+    let Some(soc) = nodes::subnode(tree, root, b"soc") else {
         return false;
     };
-    let Some(ranges) = nodes::getprop(structure, strings, soc, b"ranges") else {
+    let Some(ranges) = nodes::getprop(tree, soc, b"ranges") else {
         return false;
     };
-    let own = nodes::address_cells(structure, strings, soc);
-    let parent = nodes::address_cells(structure, strings, root);
-    let length = nodes::size_cells(structure, strings, soc);
+    let own = nodes::address_cells(tree, soc);
+    let parent = nodes::address_cells(tree, root);
+    let length = nodes::size_cells(tree, soc);
     match cells::range_row(
-        words::part(structure, ranges.at, ranges.len),
+        words::part(tree.structure, ranges.at, ranges.len),
         own,
         parent,
         length,
         0,
     ) {
         RangeRow::NoRange => {
-            let first = nodes::first_subnode(structure, strings, soc);
-            some_child(structure, strings, first, own, length, false)
+            let first = nodes::first_subnode(tree, soc);
+            some_child(tree, first, own, length, false)
         }
         RangeRow::PastRange => false,
         RangeRow::RangeAt(_) => false,
@@ -265,19 +261,19 @@ fn bad_ranges<'a>(structure: &'a [u8], strings: &'a [u8], root: usize) -> bool
 }
 
 // What the tree is refused for: 7 is judged before 8, and both before its first claim is registered.
-pub fn judge<'a>(structure: &'a [u8], strings: &'a [u8], arm: bool) -> Result<(), ValueFault>
-    ensures { result ≡ judged_of arm (root_at structure.now strings.now) }
+pub fn judge<'a>(tree: Tree<'a>, arm: bool) -> Result<(), ValueFault>
+    ensures { result ≡ judged_of arm (root_at tree.entry.structure.now tree.entry.strings.now) }
 {
-    let Some(root) = nodes::path_offset(structure, strings, b"/") else {
+    let Some(root) = nodes::path_offset(tree, b"/") else {
         return Ok(());
     };
-    if bad_reg(structure, strings, root) {
+    if bad_reg(tree, root) {
         return Err(ValueFault::UnreadableReg);
     }
-    if is_qemu_virt(structure, strings, arm) {
+    if is_qemu_virt(tree, arm) {
         return Ok(());
     }
-    if bad_ranges(structure, strings, root) {
+    if bad_ranges(tree, root) {
         return Err(ValueFault::UnreadableRanges);
     }
     Ok(())

@@ -1,13 +1,12 @@
 -- A run of registrations that takes its claims from what is left to claim, one step at a time. Assumes nothing.
 use Rattle.std.specs.Prelude.{Option, Some, None, Ok}
-use mathlib.Core.Path.{◌≡◌, refl, sym, ◌∙◌, subst}
+use mathlib.Core.Path.{◌≡◌, sym, ◌∙◌, subst}
 use mathlib.Core.Bool.{Bool, true, false}
 use mathlib.Core.List.{List, [], ◌∷◌}
 use Prim.Native.Nat.{ℕ, ◌<◌}
 use native.Mathlib.Omega.{arith}
 use lib.ListN.{length}
 use Rattle.entry.specs.declared.Claim.{Claim}
-use Rattle.entry.specs.Claim.{claim}
 use Rattle.subtree.specs.Subtree.{Stands}
 use Rattle.memory.specs.declared.MemoryMap.{MemoryMap}
 use Rattle.memory.specs.declared.Registered.{Registered}

@@ -11,7 +11,7 @@ ghost use Rattle.claims.specs.Claims.{claims_of};
 ghost use Rattle.dtb.specs.Call.{tree_refusal_number, of_fault, of_value, settled_tree, tree_registered};
 
 use claims::ValueFault;
-use fdt::TreeFault;
+use fdt::{Tree, TreeFault};
 use memory::{MapRefusal, MemoryMap};
 use numbers::Numbered;
 use visit::Step;
@@ -69,17 +69,16 @@ pub struct TreeRegistered {
 // of the call below and no call of its own.
 fn register_claims_in<'a>(
     map: &mut MemoryMap,
-    structure: &'a [u8],
-    strings: &'a [u8],
+    tree: Tree<'a>,
     block: &'a [u8],
     arm: bool,
 ) -> Result<(), MapRefusal>
     requires { Made 4096 map.old }
-    ensures { answered map.new result ≡ registered_all 4096 map.old (claims_of arm (entries_of block.now) (root_at structure.now strings.now)) }
+    ensures { answered map.new result ≡ registered_all 4096 map.old (claims_of arm (entries_of block.now) (root_at tree.entry.structure.now tree.entry.strings.now)) }
 {
     let mut cursor = visit::first_claim();
     loop {
-        match visit::next_claim(structure, strings, block, arm, cursor) {
+        match visit::next_claim(tree, block, arm, cursor) {
             Step::Claims(claim, next) => {
                 map.register_in(claim)?;
                 cursor = next;
@@ -95,18 +94,12 @@ fn register_claims_in<'a>(
 }
 
 // Registers the claims of a tree that was judged, or none of them.
-fn register_judged<'a>(
-    map: MemoryMap,
-    structure: &'a [u8],
-    strings: &'a [u8],
-    block: &'a [u8],
-    arm: bool,
-) -> TreeRegistered
+fn register_judged<'a>(map: MemoryMap, tree: Tree<'a>, block: &'a [u8], arm: bool) -> TreeRegistered
     requires { Made 4096 map }
-    ensures { result ≡ settled_tree map (registered_all 4096 map (claims_of arm (entries_of block.now) (root_at structure.now strings.now))) }
+    ensures { result ≡ settled_tree map (registered_all 4096 map (claims_of arm (entries_of block.now) (root_at tree.entry.structure.now tree.entry.strings.now))) }
 {
     let mut next = map;
-    match register_claims_in(&mut next, structure, strings, block, arm) {
+    match register_claims_in(&mut next, tree, block, arm) {
         Ok(()) => TreeRegistered {
             map: next,
             answer: Ok(()),
@@ -142,10 +135,11 @@ pub fn register_devicetree(map: MemoryMap, tree: &[u8], arm: bool) -> TreeRegist
     let n = blocks.strings;
     let structure = words::part(tree, b.at, b.len);
     let strings = words::part(tree, n.at, n.len);
-    match claims::judge(structure, strings, arm) {
+    let opened = Tree { structure, strings };
+    match claims::judge(opened, arm) {
         Ok(()) => {
             let block = reservations::reservation_block(tree, blocks);
-            register_judged(map, structure, strings, block, arm)
+            register_judged(map, opened, block, arm)
         }
         Err(fault) => TreeRegistered {
             map,

@@ -71,50 +71,57 @@ pub struct Blocks {
     pub reservations: usize,
 }
 
+// What reading takes of an opened tree: its structure block and its strings block.
+#[derive(Clone, Copy)]
+pub struct Tree<'a> {
+    pub structure: &'a [u8],
+    pub strings: &'a [u8],
+}
+
 // A property token at p, of which the structure block has the four bytes.
-fn prop_at<'a>(structure: &'a [u8], strings: &'a [u8], p: usize) -> Token
-    requires { p + 4 ≤ length structure.now }
-    ensures { result ≡ prop_at structure.now strings.now p }
+fn prop_at<'a>(tree: Tree<'a>, p: usize) -> Token
+    requires { p + 4 ≤ length tree.structure.now }
+    ensures { result ≡ prop_at tree.entry.structure.now tree.entry.strings.now p }
 {
-    let left = structure.len() - p;
+    let left = tree.structure.len() - p;
     if left < 12 {
         return Token::Bad;
     }
-    let len = words::be32(structure, p + 4);
+    let len = words::be32(tree.structure, p + 4);
     if left - 12 < len {
         return Token::Bad;
     }
-    let name = words::be32(structure, p + 8);
-    let end = words::byte_from(strings, name, 0);
-    if end < strings.len() {
+    let name = words::be32(tree.structure, p + 8);
+    let end = words::byte_from(tree.strings, name, 0);
+    if end < tree.strings.len() {
         return Token::Prop(len, name, end, (p + 12 + len + 3) / 4 * 4);
     }
     Token::Bad
 }
 
 // The token at p.
-pub fn token_at<'a>(structure: &'a [u8], strings: &'a [u8], p: usize) -> Token
-    ensures { result ≡ tok_at structure.now strings.now p }
+pub fn token_at<'a>(tree: Tree<'a>, p: usize) -> Token
+    ensures { result ≡ tok_at tree.entry.structure.now tree.entry.strings.now p }
 {
-    if structure.len() < 4 {
+    if tree.structure.len() < 4 {
         return Token::Bad;
     }
-    if structure.len() - 4 < p {
+    if tree.structure.len() - 4 < p {
         return Token::Bad;
     }
-    match words::be32(structure, p) {
+    match words::be32(tree.structure, p) {
         1 => {
-            let end = words::byte_from(structure, p + 4, 0);
-            if end < structure.len() {
+            let end = words::byte_from(tree.structure, p + 4, 0);
+            if end < tree.structure.len() {
                 return Token::Begin(end - (p + 4), (end + 4) / 4 * 4);
             }
             Token::Bad
         }
         2 => Token::EndNode(p + 4),
-        3 => prop_at(structure, strings, p),
+        3 => prop_at(tree, p),
         4 => Token::Nop(p + 4),
         9 => {
-            if structure.len() - p == 4 {
+            if tree.structure.len() - p == 4 {
                 return Token::Fin;
             }
             Token::Bad
@@ -208,8 +215,8 @@ fn stepped(st: State, t: Token) -> Step
 }
 
 // The walk over a structure block: one pass, no table.
-fn walk<'a>(structure: &'a [u8], strings: &'a [u8]) -> Result<(), TreeFault>
-    ensures { result ≡ walked structure.now strings.now }
+fn walk<'a>(tree: Tree<'a>) -> Result<(), TreeFault>
+    ensures { result ≡ walked tree.entry.structure.now tree.entry.strings.now }
 {
     let mut st = State {
         at: 0,
@@ -219,7 +226,7 @@ fn walk<'a>(structure: &'a [u8], strings: &'a [u8]) -> Result<(), TreeFault>
     };
     loop {
         let at = st.at;
-        match stepped(st, token_at(structure, strings, at)) {
+        match stepped(st, token_at(tree, at)) {
             Step::Go(next) => {
                 st = next;
             }
@@ -306,6 +313,9 @@ pub fn open_tree(s: &[u8]) -> Result<Option<Blocks>, TreeFault>
     let found = blocks_of(s);
     let b = found.structure;
     let n = found.strings;
-    walk(words::part(s, b.at, b.len), words::part(s, n.at, n.len))?;
+    walk(Tree {
+        structure: words::part(s, b.at, b.len),
+        strings: words::part(s, n.at, n.len),
+    })?;
     Ok(Some(found))
 }

@@ -1,5 +1,5 @@
-// Reading an opened tree: names, children, properties, paths and document order. Each function takes the structure block, the strings
-// block and a place in the structure block; whatever these are, it answers. A node's place is that of its FDT_BEGIN_NODE token.
+// Reading an opened tree: names, children, properties, paths and document order. Each function takes the tree's blocks and a place in
+// the structure block; whatever these are, it answers. A node's place is that of its FDT_BEGIN_NODE token.
 #![tactic(auto)]
 
 ghost use Rattle.std.specs.Prelude.{◌≡◌, ◌||◌, ◌≤◌, length};
@@ -11,7 +11,7 @@ ghost use Rattle.nodes.specs.Order.{place_at};
 ghost use Rattle.nodes.specs.Cells.{address_cells, size_cells, count_at};
 
 use cells::CellCount;
-use fdt::{Block, Token};
+use fdt::{Block, Token, Tree};
 
 // What stands past the properties: a child, with the length of its name and the place after its name; the end of the node, with the
 // place after it; or a token at which nothing goes on.
@@ -41,10 +41,10 @@ pub fn is_step<'a>(name: &'a [u8], step: &'a [u8]) -> bool
 }
 
 // The place after the name of the node at a place, or nothing where no node begins there.
-fn content_of<'a>(structure: &'a [u8], strings: &'a [u8], node: usize) -> Option<usize>
-    ensures { result ≡ content_at structure.now strings.now node }
+fn content_of<'a>(tree: Tree<'a>, node: usize) -> Option<usize>
+    ensures { result ≡ content_at tree.entry.structure.now tree.entry.strings.now node }
 {
-    match fdt::token_at(structure, strings, node) {
+    match fdt::token_at(tree, node) {
         Token::Begin(_, next) => Some(next),
         Token::Bad => None,
         Token::Nop(_) => None,
@@ -55,26 +55,26 @@ fn content_of<'a>(structure: &'a [u8], strings: &'a [u8], node: usize) -> Option
 }
 
 // The name of the node at a place: a part of the structure block; empty where no node begins there.
-pub fn name_of<'a>(structure: &'a [u8], strings: &'a [u8], node: usize) -> &'a [u8]
-    ensures { result.now ≡ name_at structure.now strings.now node }
+pub fn name_of<'a>(tree: Tree<'a>, node: usize) -> &'a [u8]
+    ensures { result.now ≡ name_at tree.entry.structure.now tree.entry.strings.now node }
 {
-    match fdt::token_at(structure, strings, node) {
-        Token::Begin(len, _) => words::part(structure, node + 4, len),
-        Token::Bad => words::part(structure, 0, 0),
-        Token::Nop(_) => words::part(structure, 0, 0),
-        Token::EndNode(_) => words::part(structure, 0, 0),
-        Token::Prop(_, _, _, _) => words::part(structure, 0, 0),
-        Token::Fin => words::part(structure, 0, 0),
+    match fdt::token_at(tree, node) {
+        Token::Begin(len, _) => words::part(tree.structure, node + 4, len),
+        Token::Bad => words::part(tree.structure, 0, 0),
+        Token::Nop(_) => words::part(tree.structure, 0, 0),
+        Token::EndNode(_) => words::part(tree.structure, 0, 0),
+        Token::Prop(_, _, _, _) => words::part(tree.structure, 0, 0),
+        Token::Fin => words::part(tree.structure, 0, 0),
     }
 }
 
 // What stands past the properties from p on.
-fn next_kid<'a>(structure: &'a [u8], strings: &'a [u8], p: usize) -> Kid
-    ensures { KidIs structure.now strings.now p result }
+fn next_kid<'a>(tree: Tree<'a>, p: usize) -> Kid
+    ensures { KidIs tree.entry.structure.now tree.entry.strings.now p result }
 {
     let mut at = p;
     loop {
-        match fdt::token_at(structure, strings, at) {
+        match fdt::token_at(tree, at) {
             Token::Nop(next) => {
                 at = next;
             }
@@ -98,13 +98,13 @@ fn next_kid<'a>(structure: &'a [u8], strings: &'a [u8], p: usize) -> Kid
 }
 
 // The place past the end of the node in which p stands, after its name; or a place where nothing goes on.
-fn skip<'a>(structure: &'a [u8], strings: &'a [u8], p: usize) -> usize
-    ensures { SkipsTo structure.now strings.now p result }
+fn skip<'a>(tree: Tree<'a>, p: usize) -> usize
+    ensures { SkipsTo tree.entry.structure.now tree.entry.strings.now p result }
 {
     let mut at = p;
     let mut depth: usize = 1;
     loop {
-        match fdt::token_at(structure, strings, at) {
+        match fdt::token_at(tree, at) {
             Token::Nop(next) => {
                 at = next;
             }
@@ -133,10 +133,10 @@ fn skip<'a>(structure: &'a [u8], strings: &'a [u8], p: usize) -> usize
 }
 
 // The first node from p on, past the properties.
-fn kid_from<'a>(structure: &'a [u8], strings: &'a [u8], p: usize) -> Option<usize>
-    ensures { result ≡ first_kid (lex_at structure.now strings.now p) }
+fn kid_from<'a>(tree: Tree<'a>, p: usize) -> Option<usize>
+    ensures { result ≡ first_kid (lex_at tree.entry.structure.now tree.entry.strings.now p) }
 {
-    match next_kid(structure, strings, p) {
+    match next_kid(tree, p) {
         Kid::Node(q, _, _) => Some(q),
         Kid::End(_) => None,
         Kid::Stuck => None,
@@ -144,33 +144,33 @@ fn kid_from<'a>(structure: &'a [u8], strings: &'a [u8], p: usize) -> Option<usiz
 }
 
 // The first child of the node at a place.
-pub fn first_subnode<'a>(structure: &'a [u8], strings: &'a [u8], node: usize) -> Option<usize>
-    ensures { result ≡ first_at structure.now strings.now node }
+pub fn first_subnode<'a>(tree: Tree<'a>, node: usize) -> Option<usize>
+    ensures { result ≡ first_at tree.entry.structure.now tree.entry.strings.now node }
 {
-    let p = content_of(structure, strings, node)?;
-    kid_from(structure, strings, p)
+    let p = content_of(tree, node)?;
+    kid_from(tree, p)
 }
 
 // The sibling after the node at a place.
-pub fn next_subnode<'a>(structure: &'a [u8], strings: &'a [u8], node: usize) -> Option<usize>
-    ensures { result ≡ next_at structure.now strings.now node }
+pub fn next_subnode<'a>(tree: Tree<'a>, node: usize) -> Option<usize>
+    ensures { result ≡ next_at tree.entry.structure.now tree.entry.strings.now node }
 {
-    let p = content_of(structure, strings, node)?;
-    kid_from(structure, strings, skip(structure, strings, p))
+    let p = content_of(tree, node)?;
+    kid_from(tree, skip(tree, p))
 }
 
 // The first property of a name from p on, before the first child.
-fn prop_from<'a>(structure: &'a [u8], strings: &'a [u8], p: usize, name: &'a [u8]) -> Option<Block>
-    ensures { result ≡ lookup name.now (lex_at structure.now strings.now p) }
+fn prop_from<'a>(tree: Tree<'a>, p: usize, name: &'a [u8]) -> Option<Block>
+    ensures { result ≡ lookup name.now (lex_at tree.entry.structure.now tree.entry.strings.now p) }
 {
     let mut at = p;
     loop {
-        match fdt::token_at(structure, strings, at) {
+        match fdt::token_at(tree, at) {
             Token::Nop(next) => {
                 at = next;
             }
             Token::Prop(len, a, z, next) => {
-                if same(words::part(strings, a, z - a), name) {
+                if same(words::part(tree.strings, a, z - a), name) {
                     return Some(Block { at: at + 12, len });
                 }
                 at = next;
@@ -193,30 +193,25 @@ fn prop_from<'a>(structure: &'a [u8], strings: &'a [u8], p: usize, name: &'a [u8
 
 // The value of the property of a name of the node at a place: where it stands in the structure block and how long it is; of equal names
 // the first counts.
-pub fn getprop<'a>(
-    structure: &'a [u8],
-    strings: &'a [u8],
-    node: usize,
-    name: &'a [u8],
-) -> Option<Block>
-    ensures { result ≡ prop_at structure.now strings.now node name.now }
+pub fn getprop<'a>(tree: Tree<'a>, node: usize, name: &'a [u8]) -> Option<Block>
+    ensures { result ≡ prop_at tree.entry.structure.now tree.entry.strings.now node name.now }
 {
-    let p = content_of(structure, strings, node)?;
-    prop_from(structure, strings, p, name)
+    let p = content_of(tree, node)?;
+    prop_from(tree, p, name)
 }
 
 // The first child from p on that is a step's.
-fn child_from<'a>(structure: &'a [u8], strings: &'a [u8], p: usize, step: &'a [u8]) -> Option<usize>
-    ensures { ChildIs structure.now strings.now p step.now result }
+fn child_from<'a>(tree: Tree<'a>, p: usize, step: &'a [u8]) -> Option<usize>
+    ensures { ChildIs tree.entry.structure.now tree.entry.strings.now p step.now result }
 {
     let mut at = p;
     loop {
-        match next_kid(structure, strings, at) {
+        match next_kid(tree, at) {
             Kid::Node(q, len, next) => {
-                if is_step(words::part(structure, q + 4, len), step) {
+                if is_step(words::part(tree.structure, q + 4, len), step) {
                     return Some(q);
                 }
-                at = skip(structure, strings, next);
+                at = skip(tree, next);
             }
             Kid::End(_) => {
                 return None;
@@ -229,23 +224,18 @@ fn child_from<'a>(structure: &'a [u8], strings: &'a [u8], p: usize, step: &'a [u
 }
 
 // The first child of the node at a place whose whole name, or part before `@`, is the step.
-pub fn subnode<'a>(
-    structure: &'a [u8],
-    strings: &'a [u8],
-    node: usize,
-    step: &'a [u8],
-) -> Option<usize>
-    ensures { result ≡ child_at structure.now strings.now node step.now }
+pub fn subnode<'a>(tree: Tree<'a>, node: usize, step: &'a [u8]) -> Option<usize>
+    ensures { result ≡ child_at tree.entry.structure.now tree.entry.strings.now node step.now }
 {
-    let p = content_of(structure, strings, node)?;
-    child_from(structure, strings, p, step)
+    let p = content_of(tree, node)?;
+    child_from(tree, p, step)
 }
 
 // The node that a path names from the root on. `/` alone is the root; any other empty step finds nothing.
-pub fn path_offset<'a>(structure: &'a [u8], strings: &'a [u8], path: &'a [u8]) -> Option<usize>
-    ensures { result ≡ path_at structure.now strings.now path.now }
+pub fn path_offset<'a>(tree: Tree<'a>, path: &'a [u8]) -> Option<usize>
+    ensures { result ≡ path_at tree.entry.structure.now tree.entry.strings.now path.now }
 {
-    let root = kid_from(structure, strings, 0)?;
+    let root = kid_from(tree, 0)?;
     if path.len() == 0 {
         return None;
     }
@@ -262,7 +252,7 @@ pub fn path_offset<'a>(structure: &'a [u8], strings: &'a [u8], path: &'a [u8]) -
         if end <= i {
             return None;
         }
-        let next = subnode(structure, strings, node, words::part(path, i, end - i))?;
+        let next = subnode(tree, node, words::part(path, i, end - i))?;
         if path.len() <= end {
             return Some(next);
         }
@@ -272,13 +262,13 @@ pub fn path_offset<'a>(structure: &'a [u8], strings: &'a [u8], path: &'a [u8]) -
 }
 
 // The number of the node at a place among the nodes below the root, in document order, the root's first child being 1; 0 for none.
-pub fn place_of<'a>(structure: &'a [u8], strings: &'a [u8], target: usize) -> usize
-    ensures { result ≡ place_at structure.now strings.now target }
+pub fn place_of<'a>(tree: Tree<'a>, target: usize) -> usize
+    ensures { result ≡ place_at tree.entry.structure.now tree.entry.strings.now target }
 {
     let mut at: usize = 0;
     let mut begun: usize = 0;
     loop {
-        match fdt::token_at(structure, strings, at) {
+        match fdt::token_at(tree, at) {
             Token::Nop(next) => {
                 at = next;
             }
@@ -306,23 +296,23 @@ pub fn place_of<'a>(structure: &'a [u8], strings: &'a [u8], target: usize) -> us
 }
 
 // What a cell property of the node at a place says of itself.
-fn count_of<'a>(structure: &'a [u8], strings: &'a [u8], node: usize, name: &'a [u8]) -> CellCount
-    ensures { result ≡ count_at structure.now strings.now node name.now }
+fn count_of<'a>(tree: Tree<'a>, node: usize, name: &'a [u8]) -> CellCount
+    ensures { result ≡ count_at tree.entry.structure.now tree.entry.strings.now node name.now }
 {
-    match getprop(structure, strings, node, name) {
-        Some(value) => cells::stated(words::part(structure, value.at, value.len)),
+    match getprop(tree, node, name) {
+        Some(value) => cells::stated(words::part(tree.structure, value.at, value.len)),
         None => CellCount::Absent,
     }
 }
 
-pub fn address_cells<'a>(structure: &'a [u8], strings: &'a [u8], node: usize) -> CellCount
-    ensures { result ≡ count_at structure.now strings.now node address_cells }
+pub fn address_cells<'a>(tree: Tree<'a>, node: usize) -> CellCount
+    ensures { result ≡ count_at tree.entry.structure.now tree.entry.strings.now node address_cells }
 {
-    count_of(structure, strings, node, b"#address-cells")
+    count_of(tree, node, b"#address-cells")
 }
 
-pub fn size_cells<'a>(structure: &'a [u8], strings: &'a [u8], node: usize) -> CellCount
-    ensures { result ≡ count_at structure.now strings.now node size_cells }
+pub fn size_cells<'a>(tree: Tree<'a>, node: usize) -> CellCount
+    ensures { result ≡ count_at tree.entry.structure.now tree.entry.strings.now node size_cells }
 {
-    count_of(structure, strings, node, b"#size-cells")
+    count_of(tree, node, b"#size-cells")
 }

@@ -7,6 +7,7 @@ ghost use Rattle.reserved.specs.Number.{cells_number};
 ghost use Rattle.reserved.specs.Reserved.{available, stated_alike, children_count, exact_of};
 
 use cells::{CellCount, RegRow, Region};
+use fdt::Tree;
 
 // The number in the first cells of some bytes, one cell or two; nothing where it cannot be read.
 pub fn cells_to_usize(bytes: &[u8], cells: usize) -> Option<u64>
@@ -43,33 +44,29 @@ fn stated_alike(root: CellCount, own: CellCount) -> bool
 }
 
 // Whether the children of /reserved-memory, at `node`, count.
-pub fn children_count<'a>(structure: &'a [u8], strings: &'a [u8], root: usize, node: usize) -> bool
-    ensures { result ≡ children_count (props_of (node_at structure.now strings.now root)) (props_of (node_at structure.now strings.now node)) }
+pub fn children_count<'a>(tree: Tree<'a>, root: usize, node: usize) -> bool
+    ensures { result ≡ children_count (props_of (node_at tree.entry.structure.now tree.entry.strings.now root)) (props_of (node_at tree.entry.structure.now tree.entry.strings.now node)) }
 {
-    let address = nodes::address_cells(structure, strings, root);
-    if !stated_alike(address, nodes::address_cells(structure, strings, node)) {
+    let address = nodes::address_cells(tree, root);
+    if !stated_alike(address, nodes::address_cells(tree, node)) {
         return false;
     }
-    let size = nodes::size_cells(structure, strings, root);
-    if !stated_alike(size, nodes::size_cells(structure, strings, node)) {
+    let size = nodes::size_cells(tree, root);
+    if !stated_alike(size, nodes::size_cells(tree, node)) {
         return false;
     }
-    match nodes::getprop(structure, strings, node, b"ranges") {
+    match nodes::getprop(tree, node, b"ranges") {
         Some(ranges) => ranges.len == 0,
         None => false,
     }
 }
 
 // Whether a child of /reserved-memory counts by its `status`.
-pub fn reserved_memory_node_is_available<'a>(
-    structure: &'a [u8],
-    strings: &'a [u8],
-    node: usize,
-) -> bool
-    ensures { result ≡ available (props_of (node_at structure.now strings.now node)) }
+pub fn reserved_memory_node_is_available<'a>(tree: Tree<'a>, node: usize) -> bool
+    ensures { result ≡ available (props_of (node_at tree.entry.structure.now tree.entry.strings.now node)) }
 {
-    match nodes::getprop(structure, strings, node, b"status") {
-        Some(value) => nodes::same(words::part(structure, value.at, value.len), b"okay\0"),
+    match nodes::getprop(tree, node, b"status") {
+        Some(value) => nodes::same(words::part(tree.structure, value.at, value.len), b"okay\0"),
         None => true,
     }
 }

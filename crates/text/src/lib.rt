@@ -4,19 +4,14 @@
 ghost use Rattle.std.specs.Prelude.{◌≡◌};
 ghost use Rattle.text.specs.Strings.{string_at, contains};
 
-use fdt::Block;
+use fdt::{Block, Tree};
 
 // The string in a property of the node at a place: where it stands and how long it is; nothing where no zero byte ends it.
-pub fn string_of<'a>(
-    structure: &'a [u8],
-    strings: &'a [u8],
-    node: usize,
-    name: &'a [u8],
-) -> Option<Block>
-    ensures { result ≡ string_at structure.now strings.now node name.now }
+pub fn string_of<'a>(tree: Tree<'a>, node: usize, name: &'a [u8]) -> Option<Block>
+    ensures { result ≡ string_at tree.entry.structure.now tree.entry.strings.now node name.now }
 {
-    let value = nodes::getprop(structure, strings, node, name)?;
-    let len = cells::text(words::part(structure, value.at, value.len))?;
+    let value = nodes::getprop(tree, node, name)?;
+    let len = cells::text(words::part(tree.structure, value.at, value.len))?;
     Some(Block { at: value.at, len })
 }
 

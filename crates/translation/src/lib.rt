@@ -11,6 +11,7 @@ ghost use Rattle.translation.specs.Search.{begun_at, up_through, tried, searched
 ghost use Rattle.reading.specs.Values.{value_of};
 
 use cells::{CellCount, RegRow, Region};
+use fdt::Tree;
 use windows::Window;
 
 // What is translated: a given region of the target, or the first entry of its `reg`.
@@ -48,21 +49,21 @@ enum Search {
 
 // The target's region, by its parent's cells.
 fn begin_at<'a>(
-    structure: &'a [u8],
-    strings: &'a [u8],
+    tree: Tree<'a>,
     node: usize,
     address: CellCount,
     size: CellCount,
     sought: Sought,
     number: usize,
 ) -> Search
-    ensures { result ≡ begun_at (start_of sought address size (value_of reg_name (props_of (node_at structure.now strings.now node)))) number }
+    ensures { result ≡ begun_at (start_of sought address size (value_of reg_name (props_of (node_at tree.entry.structure.now tree.entry.strings.now node)))) number }
 {
     match sought {
         Sought::Given(region) => Search::Gone(region.address, region.size, number),
-        Sought::FirstReg => match nodes::getprop(structure, strings, node, b"reg") {
+        Sought::FirstReg => match nodes::getprop(tree, node, b"reg") {
             Some(reg) => {
-                match cells::reg_row(words::part(structure, reg.at, reg.len), address, size, 0) {
+                let value = words::part(tree.structure, reg.at, reg.len);
+                match cells::reg_row(value, address, size, 0) {
                     RegRow::RegAt(region) => Search::Gone(region.address, region.size, number),
                     RegRow::PastReg => Search::Lost,
                     RegRow::NoReg => Search::Lost,
@@ -74,21 +75,14 @@ fn begin_at<'a>(
 }
 
 // A region through the bus at a place, whose parent has such address cells.
-fn over_bus<'a>(
-    structure: &'a [u8],
-    strings: &'a [u8],
-    bus: usize,
-    parent: CellCount,
-    address: u64,
-    size: u64,
-) -> Window
-    ensures { result ≡ over (props_of (node_at structure.now strings.now bus)) parent address size }
+fn over_bus<'a>(tree: Tree<'a>, bus: usize, parent: CellCount, address: u64, size: u64) -> Window
+    ensures { result ≡ over (props_of (node_at tree.entry.structure.now tree.entry.strings.now bus)) parent address size }
 {
-    match nodes::getprop(structure, strings, bus, b"ranges") {
+    match nodes::getprop(tree, bus, b"ranges") {
         Some(value) => {
-            let ranges = words::part(structure, value.at, value.len);
-            let own = nodes::address_cells(structure, strings, bus);
-            let length = nodes::size_cells(structure, strings, bus);
+            let ranges = words::part(tree.structure, value.at, value.len);
+            let own = nodes::address_cells(tree, bus);
+            let length = nodes::size_cells(tree, bus);
             windows::translate_bus_address(ranges, own, parent, length, address, size)
         }
         None => Window::Nowhere,
@@ -96,18 +90,12 @@ fn over_bus<'a>(
 }
 
 // What the children of the node at a place gave, through the node itself.
-fn up_through<'a>(
-    structure: &'a [u8],
-    strings: &'a [u8],
-    bus: usize,
-    parent: CellCount,
-    found: Search,
-) -> Search
-    ensures { result ≡ up_through (λ x size. over (props_of (node_at structure.now strings.now bus)) parent x size) found }
+fn up_through<'a>(tree: Tree<'a>, bus: usize, parent: CellCount, found: Search) -> Search
+    ensures { result ≡ up_through (λ x size. over (props_of (node_at tree.entry.structure.now tree.entry.strings.now bus)) parent x size) found }
 {
     match found {
         Search::Gone(address, size, number) => {
-            match over_bus(structure, strings, bus, parent, address, size) {
+            match over_bus(tree, bus, parent, address, size) {
                 Window::To(to) => Search::Gone(to, size, number),
                 Window::Nowhere => Search::Lost,
                 Window::Unreadable => Search::Lost,
@@ -121,8 +109,7 @@ fn up_through<'a>(
 // Tries the node at a place as the target, and then its children. So many nodes were tried before it.
 #[cycle(translate_from_children_translate_from_subtree)]
 fn translate_from_subtree<'a>(
-    structure: &'a [u8],
-    strings: &'a [u8],
+    tree: Tree<'a>,
     node: usize,
     address: CellCount,
     size: CellCount,
@@ -130,30 +117,28 @@ fn translate_from_subtree<'a>(
     sought: Sought,
     before: usize,
 ) -> Search
-    requires { Begins structure.now strings.now (Some node) before }
-    ensures { result ≡ tried target sought node (props_of (node_at structure.now strings.now node)) address size before (searched target sought (kids_of (node_at structure.now strings.now node)) (address_of (props_of (node_at structure.now strings.now node))) (size_of (props_of (node_at structure.now strings.now node))) (before + 1)) }
+    requires { Begins tree.structure.now tree.strings.now (Some node) before }
+    ensures { result ≡ tried target sought node (props_of (node_at tree.entry.structure.now tree.entry.strings.now node)) address size before (searched target sought (kids_of (node_at tree.entry.structure.now tree.entry.strings.now node)) (address_of (props_of (node_at tree.entry.structure.now tree.entry.strings.now node))) (size_of (props_of (node_at tree.entry.structure.now tree.entry.strings.now node))) (before + 1)) }
 {
     if node == target {
-        return begin_at(structure, strings, node, address, size, sought, before + 1);
+        return begin_at(tree, node, address, size, sought, before + 1);
     }
     let inner = translate_from_children(
-        structure,
-        strings,
-        nodes::first_subnode(structure, strings, node),
-        nodes::address_cells(structure, strings, node),
-        nodes::size_cells(structure, strings, node),
+        tree,
+        nodes::first_subnode(tree, node),
+        nodes::address_cells(tree, node),
+        nodes::size_cells(tree, node),
         target,
         sought,
         before + 1,
     );
-    up_through(structure, strings, node, address, inner)
+    up_through(tree, node, address, inner)
 }
 
 // Tries the nodes from a first one on, which have a parent with these cells.
 #[cycle(translate_from_children_translate_from_subtree)]
 fn translate_from_children<'a>(
-    structure: &'a [u8],
-    strings: &'a [u8],
+    tree: Tree<'a>,
     first: Option<usize>,
     address: CellCount,
     size: CellCount,
@@ -161,15 +146,13 @@ fn translate_from_children<'a>(
     sought: Sought,
     before: usize,
 ) -> Search
-    requires { Begins structure.now strings.now first before }
-    ensures { result ≡ searched target sought (at structure.now strings.now first) address size before }
+    requires { Begins tree.structure.now tree.strings.now first before }
+    ensures { result ≡ searched target sought (at tree.entry.structure.now tree.entry.strings.now first) address size before }
 {
     let mut child = first;
     let mut tried = before;
     while let Some(node) = child {
-        match translate_from_subtree(
-            structure, strings, node, address, size, target, sought, tried,
-        ) {
+        match translate_from_subtree(tree, node, address, size, target, sought, tried) {
             Search::Gone(to, len, found) => {
                 return Search::Gone(to, len, found);
             }
@@ -178,7 +161,7 @@ fn translate_from_children<'a>(
             }
             Search::On(passed) => {
                 tried = passed;
-                child = nodes::next_subnode(structure, strings, node);
+                child = nodes::next_subnode(tree, node);
             }
         }
     }
@@ -207,16 +190,15 @@ fn finish(found: Search) -> Option<Translated>
 
 // A region of the node at a place, through each of its ancestors below the root.
 pub fn translate_mmio_address<'a>(
-    structure: &'a [u8],
-    strings: &'a [u8],
+    tree: Tree<'a>,
     target: usize,
     sought: Sought,
 ) -> Option<Translated>
-    ensures { result ≡ translated (root_at structure.now strings.now) target sought }
+    ensures { result ≡ translated (root_at tree.entry.structure.now tree.entry.strings.now) target sought }
 {
-    let root = nodes::path_offset(structure, strings, b"/")?;
-    let first = nodes::first_subnode(structure, strings, root);
-    let address = nodes::address_cells(structure, strings, root);
-    let size = nodes::size_cells(structure, strings, root);
-    finish(translate_from_children(structure, strings, first, address, size, target, sought, 0))
+    let root = nodes::path_offset(tree, b"/")?;
+    let first = nodes::first_subnode(tree, root);
+    let address = nodes::address_cells(tree, root);
+    let size = nodes::size_cells(tree, root);
+    finish(translate_from_children(tree, first, address, size, target, sought, 0))
 }

@@ -3,7 +3,7 @@
 #![tactic(auto)]
 
 use cells::{CellCount, Region};
-use fdt::{Blocks, Token};
+use fdt::{Blocks, Token, Tree};
 use numbers::Numbered;
 use reservations::Reservation;
 use std::io::{Read, Result};
@@ -126,8 +126,8 @@ fn same_reservations<'a>(block: &'a [u8], text: &'a [u8]) -> usize {
 }
 
 // The place after the name of the node at a place.
-fn content<'a>(structure: &'a [u8], strings: &'a [u8], node: usize) -> usize {
-    match fdt::token_at(structure, strings, node) {
+fn content<'a>(tree: Tree<'a>, node: usize) -> usize {
+    match fdt::token_at(tree, node) {
         Token::Begin(_, next) => next,
         Token::Bad => NONE,
         Token::Nop(_) => NONE,
@@ -143,10 +143,10 @@ fn property_name(strings: &[u8], a: usize, z: usize) -> &[u8] {
 }
 
 // The next property from a place on, past NOPs, or none.
-fn property_from<'a>(structure: &'a [u8], strings: &'a [u8], from: usize) -> usize {
+fn property_from<'a>(tree: Tree<'a>, from: usize) -> usize {
     let mut at = from;
     for _ in 0..structure.len() {
-        match fdt::token_at(structure, strings, at) {
+        match fdt::token_at(tree, at) {
             Token::Nop(next) => {
                 at = next;
             }
@@ -171,8 +171,8 @@ fn property_from<'a>(structure: &'a [u8], strings: &'a [u8], from: usize) -> usi
 }
 
 // The place after a property.
-fn property_end<'a>(structure: &'a [u8], strings: &'a [u8], at: usize) -> usize {
-    match fdt::token_at(structure, strings, at) {
+fn property_end<'a>(tree: Tree<'a>, at: usize) -> usize {
+    match fdt::token_at(tree, at) {
         Token::Prop(_, _, _, next) => next,
         Token::Bad => NONE,
         Token::Nop(_) => NONE,
@@ -182,14 +182,14 @@ fn property_end<'a>(structure: &'a [u8], strings: &'a [u8], at: usize) -> usize 
     }
 }
 
-fn name_at<'a>(structure: &'a [u8], strings: &'a [u8], at: usize) -> &'a [u8] {
-    match fdt::token_at(structure, strings, at) {
-        Token::Prop(_, a, z, _) => property_name(strings, a, z),
-        Token::Bad => words::part(strings, 0, 0),
-        Token::Nop(_) => words::part(strings, 0, 0),
-        Token::Begin(_, _) => words::part(strings, 0, 0),
-        Token::EndNode(_) => words::part(strings, 0, 0),
-        Token::Fin => words::part(strings, 0, 0),
+fn name_at<'a>(tree: Tree<'a>, at: usize) -> &'a [u8] {
+    match fdt::token_at(tree, at) {
+        Token::Prop(_, a, z, _) => property_name(tree.strings, a, z),
+        Token::Bad => words::part(tree.strings, 0, 0),
+        Token::Nop(_) => words::part(tree.strings, 0, 0),
+        Token::Begin(_, _) => words::part(tree.strings, 0, 0),
+        Token::EndNode(_) => words::part(tree.strings, 0, 0),
+        Token::Fin => words::part(tree.strings, 0, 0),
     }
 }
 
@@ -203,84 +203,65 @@ fn value_at(structure: &[u8], at: usize) -> &[u8] {
 }
 
 // The place after the line of a property.
-fn same_property<'a>(
-    structure: &'a [u8],
-    strings: &'a [u8],
-    text: &'a [u8],
-    from: usize,
-    at: usize,
-) -> usize {
+fn same_property<'a>(tree: Tree<'a>, text: &'a [u8], from: usize, at: usize) -> usize {
     let a = same_bytes(text, from, b"prop ");
-    let b = same_bytes(text, a, name_at(structure, strings, at));
+    let b = same_bytes(text, a, name_at(tree, at));
     let c = same_byte(text, b, b' ');
-    let d = same_hex(text, c, value_at(structure, at));
+    let d = same_hex(text, c, value_at(tree.structure, at));
     same_byte(text, d, b'\n')
 }
 
 // The place after the lines of a node's properties.
-fn same_properties<'a>(
-    structure: &'a [u8],
-    strings: &'a [u8],
-    text: &'a [u8],
-    from: usize,
-    node: usize,
-) -> usize {
-    let mut at = property_from(structure, strings, content(structure, strings, node));
+fn same_properties<'a>(tree: Tree<'a>, text: &'a [u8], from: usize, node: usize) -> usize {
+    let mut at = property_from(tree, content(tree, node));
     let mut p = from;
     for _ in 0..structure.len() {
         if at == NONE {
             return p;
         }
-        p = same_property(structure, strings, text, p, at);
-        at = property_from(structure, strings, property_end(structure, strings, at));
+        p = same_property(tree, text, p, at);
+        at = property_from(tree, property_end(tree, at));
     }
     NONE
 }
 
 // The place after the lines of a node and its properties.
-fn same_node<'a>(
-    structure: &'a [u8],
-    strings: &'a [u8],
-    text: &'a [u8],
-    from: usize,
-    node: usize,
-    depth: usize,
-) -> usize {
+fn same_node<'a>(tree: Tree<'a>, text: &'a [u8], from: usize, node: usize, depth: usize) -> usize {
     let a = same_bytes(text, from, b"node ");
     let b = same_decimal(text, a, depth as u64);
     let c = same_byte(text, b, b' ');
-    let d = same_bytes(text, c, nodes::name_of(structure, strings, node));
+    let d = same_bytes(text, c, nodes::name_of(tree, node));
     let e = same_byte(text, d, b'\n');
-    same_properties(structure, strings, text, e, node)
+    same_properties(tree, text, e, node)
 }
 
 // The first property of a name of a node, or none: what nodes::getprop has to find.
-fn first_named<'a>(structure: &'a [u8], strings: &'a [u8], node: usize, name: &'a [u8]) -> usize {
-    let mut at = property_from(structure, strings, content(structure, strings, node));
+fn first_named<'a>(tree: Tree<'a>, node: usize, name: &'a [u8]) -> usize {
+    let mut at = property_from(tree, content(tree, node));
     for _ in 0..structure.len() {
         if at == NONE {
             return NONE;
         }
-        if equal(name_at(structure, strings, at), name) {
+        if equal(name_at(tree, at), name) {
             return at;
         }
-        at = property_from(structure, strings, property_end(structure, strings, at));
+        at = property_from(tree, property_end(tree, at));
     }
     NONE
 }
 
 // Whether nodes::getprop finds the first property of a name, or none where there is none.
-fn finds<'a>(structure: &'a [u8], strings: &'a [u8], node: usize, name: &'a [u8]) -> bool {
-    let place = first_named(structure, strings, node, name);
-    match nodes::getprop(structure, strings, node, name) {
+fn finds<'a>(tree: Tree<'a>, node: usize, name: &'a [u8]) -> bool {
+    let place = first_named(tree, node, name);
+    match nodes::getprop(tree, node, name) {
         Some(value) => {
             if place == NONE {
                 return false;
             }
-            if value.at != stream::forward(structure, place, 12) {
+            if value.at != stream::forward(tree.structure, place, 12) {
                 return false;
             }
-            value.len == words::be32(structure, stream::forward(structure, place, 4))
+            value.len == words::be32(tree.structure, stream::forward(tree.structure, place, 4))
         }
         None => place == NONE,
     }
@@ -292,40 +273,34 @@ fn shorter(s: &[u8]) -> &[u8] {
 }
 
 // Whether a property is found by its name, in its node and in the node above, and by a name that lacks a letter.
-fn finds_property<'a>(
-    structure: &'a [u8],
-    strings: &'a [u8],
-    node: usize,
-    above: usize,
-    at: usize,
-) -> bool {
-    let name = name_at(structure, strings, at);
-    if !finds(structure, strings, node, name) {
+fn finds_property<'a>(tree: Tree<'a>, node: usize, above: usize, at: usize) -> bool {
+    let name = name_at(tree, at);
+    if !finds(tree, node, name) {
         return false;
     }
-    if !finds(structure, strings, above, name) {
+    if !finds(tree, above, name) {
         return false;
     }
-    if !finds(structure, strings, node, shorter(name)) {
+    if !finds(tree, node, shorter(name)) {
         return false;
     }
     // A property is no node, so it has no place in document order.
-    if SMALL < structure.len() {
+    if SMALL < tree.structure.len() {
         return true;
     }
-    nodes::place_of(structure, strings, at) == 0
+    nodes::place_of(tree, at) == 0
 }
 
-fn finds_properties<'a>(structure: &'a [u8], strings: &'a [u8], node: usize, above: usize) -> bool {
-    let mut at = property_from(structure, strings, content(structure, strings, node));
+fn finds_properties<'a>(tree: Tree<'a>, node: usize, above: usize) -> bool {
+    let mut at = property_from(tree, content(tree, node));
     for _ in 0..structure.len() {
         if at == NONE {
             return true;
         }
-        if !finds_property(structure, strings, node, above, at) {
+        if !finds_property(tree, node, above, at) {
             return false;
         }
-        at = property_from(structure, strings, property_end(structure, strings, at));
+        at = property_from(tree, property_end(tree, at));
     }
     false
 }
@@ -353,17 +328,13 @@ fn counts(structure: &[u8], at: usize, found: CellCount) -> bool {
     }
 }
 
-fn has_cells<'a>(structure: &'a [u8], strings: &'a [u8], node: usize) -> bool {
-    let address = first_named(structure, strings, node, b"#address-cells");
-    if !counts(
-        structure,
-        address,
-        nodes::address_cells(structure, strings, node),
-    ) {
+fn has_cells<'a>(tree: Tree<'a>, node: usize) -> bool {
+    let address = first_named(tree, node, b"#address-cells");
+    if !counts(tree.structure, address, nodes::address_cells(tree, node)) {
         return false;
     }
-    let size = first_named(structure, strings, node, b"#size-cells");
-    counts(structure, size, nodes::size_cells(structure, strings, node))
+    let size = first_named(tree, node, b"#size-cells");
+    counts(tree.structure, size, nodes::size_cells(tree, node))
 }
 
 // The part of a name before its first `@`.
@@ -377,8 +348,8 @@ fn stem(name: &[u8]) -> &[u8] {
 }
 
 // The name of a node, or its part before `@`.
-fn step_of<'a>(structure: &'a [u8], strings: &'a [u8], node: usize, whole: bool) -> &'a [u8] {
-    let name = nodes::name_of(structure, strings, node);
+fn step_of<'a>(tree: Tree<'a>, node: usize, whole: bool) -> &'a [u8] {
+    let name = nodes::name_of(tree, node);
     if whole {
         return name;
     }
@@ -397,35 +368,35 @@ fn matches<'a>(name: &'a [u8], step: &'a [u8]) -> bool {
 }
 
 // The first child that a step names, or none: what nodes::subnode has to find.
-fn first_child<'a>(structure: &'a [u8], strings: &'a [u8], node: usize, step: &'a [u8]) -> usize {
-    let mut at = place(nodes::first_subnode(structure, strings, node));
+fn first_child<'a>(tree: Tree<'a>, node: usize, step: &'a [u8]) -> usize {
+    let mut at = place(nodes::first_subnode(tree, node));
     for _ in 0..structure.len() {
         if at == NONE {
             return NONE;
         }
-        if matches(nodes::name_of(structure, strings, at), step) {
+        if matches(nodes::name_of(tree, at), step) {
             return at;
         }
-        at = place(nodes::next_subnode(structure, strings, at));
+        at = place(nodes::next_subnode(tree, at));
     }
     NONE
 }
 
-fn finds_child<'a>(structure: &'a [u8], strings: &'a [u8], node: usize, step: &'a [u8]) -> bool {
-    let found = nodes::subnode(structure, strings, node, step);
-    place(found) == first_child(structure, strings, node, step)
+fn finds_child<'a>(tree: Tree<'a>, node: usize, step: &'a [u8]) -> bool {
+    let found = nodes::subnode(tree, node, step);
+    place(found) == first_child(tree, node, step)
 }
 
 // Whether a child is found by its name, by its part before `@`, and by a name that lacks a letter.
-fn finds_node<'a>(structure: &'a [u8], strings: &'a [u8], above: usize, node: usize) -> bool {
-    let name = nodes::name_of(structure, strings, node);
-    if !finds_child(structure, strings, above, name) {
+fn finds_node<'a>(tree: Tree<'a>, above: usize, node: usize) -> bool {
+    let name = nodes::name_of(tree, node);
+    if !finds_child(tree, above, name) {
         return false;
     }
-    if !finds_child(structure, strings, above, stem(name)) {
+    if !finds_child(tree, above, stem(name)) {
         return false;
     }
-    finds_child(structure, strings, above, shorter(name))
+    finds_child(tree, above, shorter(name))
 }
 
 // Puts a step behind the first `at` bytes of a path, and answers the path's length; none where it has no room, or the
@@ -458,8 +429,7 @@ fn up(ups: &[usize; 32], depth: usize) -> usize {
 
 // Writes the path to a node, whose ancestors and itself are `ups` up to its depth, and answers its length.
 fn write_path<'a>(
-    structure: &'a [u8],
-    strings: &'a [u8],
+    tree: Tree<'a>,
     ups: &[usize; 32],
     depth: usize,
     whole: bool,
@@ -467,56 +437,38 @@ fn write_path<'a>(
 ) -> usize {
     let mut len: usize = 0;
     for i in 1..=depth {
-        len = append(path, len, step_of(structure, strings, up(ups, i), whole));
+        len = append(path, len, step_of(tree, up(ups, i), whole));
     }
     len
 }
 
 // The node that such a path leads to, or none: what nodes::path_offset has to find. An empty step finds nothing.
-fn follow<'a>(
-    structure: &'a [u8],
-    strings: &'a [u8],
-    ups: &[usize; 32],
-    depth: usize,
-    whole: bool,
-) -> usize {
+fn follow<'a>(tree: Tree<'a>, ups: &[usize; 32], depth: usize, whole: bool) -> usize {
     let mut node = up(ups, 0);
     for i in 1..=depth {
-        let step = step_of(structure, strings, up(ups, i), whole);
+        let step = step_of(tree, up(ups, i), whole);
         if step.len() == 0 {
             return NONE;
         }
-        node = first_child(structure, strings, node, step);
+        node = first_child(tree, node, step);
     }
     node
 }
 
-fn leads<'a>(structure: &'a [u8], strings: &'a [u8], path: &'a [u8]) -> usize {
-    place(nodes::path_offset(structure, strings, path))
+fn leads<'a>(tree: Tree<'a>, path: &'a [u8]) -> usize {
+    place(nodes::path_offset(tree, path))
 }
 
 // Where a part of a path leads.
-fn part_leads<'a>(
-    structure: &'a [u8],
-    strings: &'a [u8],
-    path: &'a [u8; PATH],
-    from: usize,
-    len: usize,
-) -> usize {
+fn part_leads<'a>(tree: Tree<'a>, path: &'a [u8; PATH], from: usize, len: usize) -> usize {
     let bytes: &[u8] = path;
-    leads(structure, strings, words::part(bytes, from, len))
+    leads(tree, words::part(bytes, from, len))
 }
 
 // Whether a path leads where it has to, and nowhere with a `/` behind it, or without the one before it.
-fn finds_path<'a>(
-    structure: &'a [u8],
-    strings: &'a [u8],
-    ups: &[usize; 32],
-    depth: usize,
-    whole: bool,
-) -> bool {
+fn finds_path<'a>(tree: Tree<'a>, ups: &[usize; 32], depth: usize, whole: bool) -> bool {
     let mut path = [0u8; PATH];
-    let len = write_path(structure, strings, ups, depth, whole, &mut path);
+    let len = write_path(tree, ups, depth, whole, &mut path);
     let longer = put(&mut path, len, b'/');
     if longer == NONE {
         return true;
@@ -525,92 +477,80 @@ fn finds_path<'a>(
     if len == 1 {
         return true;
     }
-    let target = follow(structure, strings, ups, depth, whole);
-    if part_leads(structure, strings, &path, 0, len) != target {
+    let target = follow(tree, ups, depth, whole);
+    if part_leads(tree, &path, 0, len) != target {
         return false;
     }
-    if part_leads(structure, strings, &path, 0, longer) != NONE {
+    if part_leads(tree, &path, 0, longer) != NONE {
         return false;
     }
     // An empty step: without its first `/` the path could be a good one.
     if target == NONE {
         return true;
     }
-    part_leads(structure, strings, &path, 1, difference(len, 1)) == NONE
+    part_leads(tree, &path, 1, difference(len, 1)) == NONE
 }
 
 // What goes over the whole tree for each node, and so is left out of large ones.
-fn check_found<'a>(
-    structure: &'a [u8],
-    strings: &'a [u8],
-    ups: &[usize; 32],
-    depth: usize,
-    nodes: usize,
-) -> u64 {
+fn check_found<'a>(tree: Tree<'a>, ups: &[usize; 32], depth: usize, nodes: usize) -> u64 {
     let node = up(ups, depth);
-    if nodes::place_of(structure, strings, node) != nodes {
+    if nodes::place_of(tree, node) != nodes {
         return 4;
     }
     if depth == 0 {
         return 0;
     }
-    if !finds_node(structure, strings, up(ups, depth - 1), node) {
+    if !finds_node(tree, up(ups, depth - 1), node) {
         return 5;
     }
-    if !finds_path(structure, strings, ups, depth, true) {
+    if !finds_path(tree, ups, depth, true) {
         return 5;
     }
-    if !finds_path(structure, strings, ups, depth, false) {
+    if !finds_path(tree, ups, depth, false) {
         return 5;
     }
     0
 }
 
 // The part of a node that differs: 3 a property, 4 the place in document order, 5 a child or a path, 6 the cells.
-fn check_node<'a>(
-    structure: &'a [u8],
-    strings: &'a [u8],
-    ups: &[usize; 32],
-    depth: usize,
-    nodes: usize,
-) -> u64 {
+fn check_node<'a>(tree: Tree<'a>, ups: &[usize; 32], depth: usize, nodes: usize) -> u64 {
     let node = up(ups, depth);
     let above = up(ups, difference(depth, 1));
-    if !finds_properties(structure, strings, node, above) {
+    if !finds_properties(tree, node, above) {
         return 3;
     }
-    if !has_cells(structure, strings, node) {
+    if !has_cells(tree, node) {
         return 6;
     }
-    if SMALL < structure.len() {
+    if SMALL < tree.structure.len() {
         return 0;
     }
-    check_found(structure, strings, ups, depth, nodes)
+    check_found(tree, ups, depth, nodes)
 }
 
 // The node after one that has no children: a sibling of it, or of the nearest node above it that has one.
-fn onward<'a>(structure: &'a [u8], strings: &'a [u8], ups: &[usize; 32], depth: usize) -> Next {
+fn onward<'a>(tree: Tree<'a>, ups: &[usize; 32], depth: usize) -> Next {
     for d in (1..=depth).rev() {
-        if let Some(next) = nodes::next_subnode(structure, strings, up(ups, d)) {
+        if let Some(next) = nodes::next_subnode(tree, up(ups, d)) {
             return Next::Node(next, d);
         }
     }
-    match nodes::next_subnode(structure, strings, up(ups, 0)) {
+    match nodes::next_subnode(tree, up(ups, 0)) {
         Some(_) => Next::Lost,
         None => Next::Done,
     }
 }
 
 // The next node in document order.
-fn next_node<'a>(structure: &'a [u8], strings: &'a [u8], ups: &[usize; 32], depth: usize) -> Next {
-    match nodes::first_subnode(structure, strings, up(ups, depth)) {
+fn next_node<'a>(tree: Tree<'a>, ups: &[usize; 32], depth: usize) -> Next {
+    match nodes::first_subnode(tree, up(ups, depth)) {
         Some(next) => {
             if depth < 31 {
                 return Next::Node(next, depth + 1);
             }
             Next::Lost
         }
-        None => onward(structure, strings, ups, depth),
+        None => onward(tree, ups, depth),
     }
 }
 
@@ -621,25 +561,19 @@ fn set(ups: &mut [usize; 32], depth: usize, node: usize) {
 }
 
 // Walks a tree from its root on, beside its text from a place on, and answers the first part that differs.
-fn walk<'a>(
-    structure: &'a [u8],
-    strings: &'a [u8],
-    text: &'a [u8],
-    from: usize,
-    root: usize,
-) -> u64 {
+fn walk<'a>(tree: Tree<'a>, text: &'a [u8], from: usize, root: usize) -> u64 {
     let mut ups = [NONE; 32];
     let mut node = root;
     let mut depth: usize = 0;
     let mut p = from;
     for nodes in 0..4096 {
         set(&mut ups, depth, node);
-        p = same_node(structure, strings, text, p, node, depth);
-        let part = check_node(structure, strings, &ups, depth, nodes);
+        p = same_node(tree, text, p, node, depth);
+        let part = check_node(tree, &ups, depth, nodes);
         if part != 0 {
             return part;
         }
-        match next_node(structure, strings, &ups, depth) {
+        match next_node(tree, &ups, depth) {
             Next::Node(n, d) => {
                 node = n;
                 depth = d;
@@ -668,20 +602,15 @@ fn same_tree<'a>(blob: &'a [u8], text: &'a [u8], b: Blocks) -> u64 {
     let n = b.strings;
     let structure = words::part(blob, s.at, s.len);
     let strings = words::part(blob, n.at, n.len);
+    let tree = Tree { structure, strings };
     let from = same_reservations(reservations::reservation_block(blob, b), text);
-    if leads(structure, strings, b"") != NONE {
+    if leads(tree, b"") != NONE {
         return 5;
     }
-    if leads(structure, strings, b"//") != NONE {
+    if leads(tree, b"//") != NONE {
         return 5;
     }
-    walk(
-        structure,
-        strings,
-        text,
-        from,
-        leads(structure, strings, b"/"),
-    )
+    walk(tree, text, from, leads(tree, b"/"))
 }
 
 // Whether a text is that of a refusal.

@@ -17,7 +17,7 @@ ghost use Rattle.visit.specs.declared.Stage.TheVariants.{Entries};
 use cells::{CellCount, RegRow, Region};
 use claims::Way;
 use entry::Claim;
-use fdt::Block;
+use fdt::{Block, Tree};
 use reservations::Reservation;
 use windows::Window;
 
@@ -83,74 +83,74 @@ fn part_by(value: Option<Block>) -> Block
 }
 
 // /reserved-memory, where its children count.
-fn reserved_parent<'a>(structure: &'a [u8], strings: &'a [u8]) -> Option<usize>
-    ensures { result ≡ parent_at structure.now strings.now Reserve }
+fn reserved_parent<'a>(tree: Tree<'a>) -> Option<usize>
+    ensures { result ≡ parent_at tree.entry.structure.now tree.entry.strings.now Reserve }
 {
-    let root = nodes::path_offset(structure, strings, b"/")?;
-    let node = nodes::subnode(structure, strings, root, b"reserved-memory")?;
-    if reserved::children_count(structure, strings, root, node) {
+    let root = nodes::path_offset(tree, b"/")?;
+    let node = nodes::subnode(tree, root, b"reserved-memory")?;
+    if reserved::children_count(tree, root, node) {
         return Some(node);
     }
     None
 }
 
 // /soc, where it has `ranges`.
-fn soc_parent<'a>(structure: &'a [u8], strings: &'a [u8]) -> Option<usize>
-    ensures { result ≡ parent_at structure.now strings.now Soc }
+fn soc_parent<'a>(tree: Tree<'a>) -> Option<usize>
+    ensures { result ≡ parent_at tree.entry.structure.now tree.entry.strings.now Soc }
 {
-    let root = nodes::path_offset(structure, strings, b"/")?;
-    let node = nodes::subnode(structure, strings, root, b"soc")?;
-    nodes::getprop(structure, strings, node, b"ranges")?;
+    let root = nodes::path_offset(tree, b"/")?;
+    let node = nodes::subnode(tree, root, b"soc")?;
+    nodes::getprop(tree, node, b"ranges")?;
     Some(node)
 }
 
 // The node whose children claim by a rule, where they do.
-fn parent_of<'a>(structure: &'a [u8], strings: &'a [u8], way: Way) -> Option<usize>
-    ensures { result ≡ parent_at structure.now strings.now way }
+fn parent_of<'a>(tree: Tree<'a>, way: Way) -> Option<usize>
+    ensures { result ≡ parent_at tree.entry.structure.now tree.entry.strings.now way }
 {
     match way {
-        Way::Reserve => reserved_parent(structure, strings),
-        Way::Soc => soc_parent(structure, strings),
-        Way::Controllers => nodes::path_offset(structure, strings, b"/"),
+        Way::Reserve => reserved_parent(tree),
+        Way::Soc => soc_parent(tree),
+        Way::Controllers => nodes::path_offset(tree, b"/"),
     }
 }
 
-fn root_cells<'a>(structure: &'a [u8], strings: &'a [u8]) -> CellCount
-    ensures { result ≡ root_cells structure.now strings.now }
+fn root_cells<'a>(tree: Tree<'a>) -> CellCount
+    ensures { result ≡ root_cells tree.entry.structure.now tree.entry.strings.now }
 {
-    match nodes::path_offset(structure, strings, b"/") {
-        Some(root) => nodes::address_cells(structure, strings, root),
+    match nodes::path_offset(tree, b"/") {
+        Some(root) => nodes::address_cells(tree, root),
         None => CellCount::Absent,
     }
 }
 
 // The `ranges` that a child's regions go through: /soc's alone.
-fn ranges_of<'a>(structure: &'a [u8], strings: &'a [u8], way: Way, node: usize) -> Block
-    ensures { result ≡ ranges_by way (prop_at structure.now strings.now node ranges_name) }
+fn ranges_of<'a>(tree: Tree<'a>, way: Way, node: usize) -> Block
+    ensures { result ≡ ranges_by way (prop_at tree.entry.structure.now tree.entry.strings.now node ranges_name) }
 {
     match way {
         Way::Reserve => Block { at: 0, len: 0 },
-        Way::Soc => part_by(nodes::getprop(structure, strings, node, b"ranges")),
+        Way::Soc => part_by(nodes::getprop(tree, node, b"ranges")),
         Way::Controllers => Block { at: 0, len: 0 },
     }
 }
 
 // Before the first child that claims by a rule. All that its siblings share is read here, once.
-fn enter<'a>(structure: &'a [u8], strings: &'a [u8], way: Way) -> Cursor
-    ensures { result ≡ enter_at structure.now strings.now way }
+fn enter<'a>(tree: Tree<'a>, way: Way) -> Cursor
+    ensures { result ≡ enter_at tree.entry.structure.now tree.entry.strings.now way }
 {
-    let Some(node) = parent_of(structure, strings, way) else {
+    let Some(node) = parent_of(tree, way) else {
         return start_at(Stage::Children(way));
     };
     Cursor {
         stage: Stage::Children(way),
         row: 0,
         value: Block { at: 0, len: 0 },
-        next: nodes::first_subnode(structure, strings, node),
-        own: nodes::address_cells(structure, strings, node),
-        parent: root_cells(structure, strings),
-        length: nodes::size_cells(structure, strings, node),
-        ranges: ranges_of(structure, strings, way, node),
+        next: nodes::first_subnode(tree, node),
+        own: nodes::address_cells(tree, node),
+        parent: root_cells(tree),
+        length: nodes::size_cells(tree, node),
+        ranges: ranges_of(tree, way, node),
     }
 }
 
@@ -177,17 +177,12 @@ fn with_row(cursor: Cursor, row: usize) -> Cursor
 }
 
 // An entry of the reservation block: size 0, or a sum of 2^64 or more, is passed over.
-fn visit_fdt_memory_reservations<'a>(
-    structure: &'a [u8],
-    strings: &'a [u8],
-    block: &'a [u8],
-    cursor: Cursor,
-) -> Step
-    ensures { result ≡ entry_step structure.now strings.now (entry_of block.now cursor.row) cursor }
+fn visit_fdt_memory_reservations<'a>(tree: Tree<'a>, block: &'a [u8], cursor: Cursor) -> Step
+    ensures { result ≡ entry_step tree.entry.structure.now tree.entry.strings.now (entry_of block.now cursor.row) cursor }
 {
     let row = cursor.row;
     let Reservation::Entry(entry) = reservations::reserved_entry(block, row) else {
-        return Step::On(enter(structure, strings, Way::Reserve));
+        return Step::On(enter(tree, Way::Reserve));
     };
     let next = with_row(cursor, row + 1);
     if entry.size == 0 {
@@ -207,15 +202,15 @@ fn visit_fdt_memory_reservations<'a>(
 }
 
 // What comes after the children of a rule.
-fn after<'a>(structure: &'a [u8], strings: &'a [u8], arm: bool, way: Way) -> Cursor
-    ensures { result ≡ after_at structure.now strings.now arm way }
+fn after<'a>(tree: Tree<'a>, arm: bool, way: Way) -> Cursor
+    ensures { result ≡ after_at tree.entry.structure.now tree.entry.strings.now arm way }
 {
     match way {
         Way::Reserve => {
-            if claims::is_qemu_virt(structure, strings, arm) {
+            if claims::is_qemu_virt(tree, arm) {
                 return start_at(Stage::Virt);
             }
-            enter(structure, strings, Way::Soc)
+            enter(tree, Way::Soc)
         }
         Way::Soc => start_at(Stage::Console),
         Way::Controllers => start_at(Stage::Over),
@@ -223,18 +218,12 @@ fn after<'a>(structure: &'a [u8], strings: &'a [u8], arm: bool, way: Way) -> Cur
 }
 
 // To the next child, or past the last one.
-fn next_child<'a>(
-    structure: &'a [u8],
-    strings: &'a [u8],
-    arm: bool,
-    way: Way,
-    cursor: Cursor,
-) -> Cursor
-    ensures { result ≡ child_next structure.now strings.now arm way cursor cursor.next }
+fn next_child<'a>(tree: Tree<'a>, arm: bool, way: Way, cursor: Cursor) -> Cursor
+    ensures { result ≡ child_next tree.entry.structure.now tree.entry.strings.now arm way cursor cursor.next }
 {
     let next = cursor.next;
     let Some(child) = next else {
-        return after(structure, strings, arm, way);
+        return after(tree, arm, way);
     };
     let own = cursor.own;
     let parent = cursor.parent;
@@ -243,8 +232,8 @@ fn next_child<'a>(
     Cursor {
         stage: Stage::Children(way),
         row: 0,
-        value: part_by(claims::child_value(structure, strings, way, own, length, child)),
-        next: nodes::next_subnode(structure, strings, child),
+        value: part_by(claims::child_value(tree, way, own, length, child)),
+        next: nodes::next_subnode(tree, child),
         own,
         parent,
         length,
@@ -283,26 +272,21 @@ fn region_step(structure: &[u8], way: Way, cursor: Cursor, region: Region, next:
 }
 
 // The next region of the child at hand, or the next child.
-fn child_step<'a>(
-    structure: &'a [u8],
-    strings: &'a [u8],
-    arm: bool,
-    way: Way,
-    cursor: Cursor,
-) -> Step
-    ensures { result ≡ child_step structure.now strings.now arm way cursor }
+fn child_step<'a>(tree: Tree<'a>, arm: bool, way: Way, cursor: Cursor) -> Step
+    ensures { result ≡ child_step tree.entry.structure.now tree.entry.strings.now arm way cursor }
 {
     let value = cursor.value;
     let row = cursor.row;
     let own = cursor.own;
     let length = cursor.length;
-    let entries = words::part(structure, value.at, value.len);
+    let entries = words::part(tree.structure, value.at, value.len);
     match cells::reg_row(entries, own, length, row) {
         RegRow::RegAt(region) => {
-            region_step(structure, way, cursor, region, with_row(cursor, row + 1))
+            let next = with_row(cursor, row + 1);
+            region_step(tree.structure, way, cursor, region, next)
         }
-        RegRow::PastReg => Step::On(next_child(structure, strings, arm, way, cursor)),
-        RegRow::NoReg => Step::On(next_child(structure, strings, arm, way, cursor)),
+        RegRow::PastReg => Step::On(next_child(tree, arm, way, cursor)),
+        RegRow::NoReg => Step::On(next_child(tree, arm, way, cursor)),
     }
 }
 
@@ -331,11 +315,11 @@ fn virt_step(cursor: Cursor) -> Step
 }
 
 // The console's registers, and then the root's children.
-fn console_step<'a>(structure: &'a [u8], strings: &'a [u8]) -> Step
-    ensures { result ≡ yields (uart_claim (uart_of (root_at structure.now strings.now))) (enter_at structure.now strings.now Controllers) }
+fn console_step<'a>(tree: Tree<'a>) -> Step
+    ensures { result ≡ yields (uart_claim (uart_of (root_at tree.entry.structure.now tree.entry.strings.now))) (enter_at tree.entry.structure.now tree.entry.strings.now Controllers) }
 {
-    let next = enter(structure, strings, Way::Controllers);
-    match stdout::diag_uart_range(structure, strings) {
+    let next = enter(tree, Way::Controllers);
+    match stdout::diag_uart_range(tree) {
         Some(region) => Step::Claims(
             Claim {
                 base: region.address,
@@ -349,21 +333,15 @@ fn console_step<'a>(structure: &'a [u8], strings: &'a [u8]) -> Step
 }
 
 // A step from a cursor on: one entry, one region or one child further.
-pub fn next_claim<'a>(
-    structure: &'a [u8],
-    strings: &'a [u8],
-    block: &'a [u8],
-    arm: bool,
-    cursor: Cursor,
-) -> Step
-    ensures { result ≡ step_of structure.now strings.now block.now arm cursor }
+pub fn next_claim<'a>(tree: Tree<'a>, block: &'a [u8], arm: bool, cursor: Cursor) -> Step
+    ensures { result ≡ step_of tree.entry.structure.now tree.entry.strings.now block.now arm cursor }
 {
     let stage = cursor.stage;
     match stage {
-        Stage::Entries => visit_fdt_memory_reservations(structure, strings, block, cursor),
-        Stage::Children(way) => child_step(structure, strings, arm, way, cursor),
+        Stage::Entries => visit_fdt_memory_reservations(tree, block, cursor),
+        Stage::Children(way) => child_step(tree, arm, way, cursor),
         Stage::Virt => virt_step(cursor),
-        Stage::Console => console_step(structure, strings),
+        Stage::Console => console_step(tree),
         Stage::Over => Step::End,
     }
 }

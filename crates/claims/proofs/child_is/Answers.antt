@@ -7,32 +7,32 @@ returns-in_default c = is_without _ _ _ _ c.getprop.ensures _ _ _ c.in_default.i
 
 pub returns-then-not-reserved_memory_node_is_available : goal.returns-then-not-reserved_memory_node_is_available
 returns-then-not-reserved_memory_node_is_available c =
-    is_other _ _ _ _ c.getprop.ensures _ _ _ _ c.in-Some.is _ c.part.ensures _ c.reg_row-first.ensures
+    is_other _ _ _ _ c.getprop.ensures _ _ _ _ c.in-Some.is _ c.part-value.ensures _ c.reg_row-first.ensures
     c.if-reserved.true _ c.reserved_memory_node_is_available.ensures c.if-not-reserved_memory_node_is_available.true
 
 pub returns-in-NoReg : goal.returns-in-NoReg
 returns-in-NoReg c =
-    is_reserved _ _ _ _ c.getprop.ensures _ _ _ _ c.in-Some.is _ c.part.ensures _ c.reg_row-first.ensures
+    is_reserved _ _ _ _ c.getprop.ensures _ _ _ _ c.in-Some.is _ c.part-value.ensures _ c.reg_row-first.ensures
     c.if-reserved.true _ c.reserved_memory_node_is_available.ensures c.if-not-reserved_memory_node_is_available.false _ c.in-NoReg.is
 
 pub returns-in-PastReg : goal.returns-in-PastReg
 returns-in-PastReg c =
-    is_reserved _ _ _ _ c.getprop.ensures _ _ _ _ c.in-Some.is _ c.part.ensures _ c.reg_row-first.ensures
+    is_reserved _ _ _ _ c.getprop.ensures _ _ _ _ c.in-Some.is _ c.part-value.ensures _ c.reg_row-first.ensures
     c.if-reserved.true _ c.reserved_memory_node_is_available.ensures c.if-not-reserved_memory_node_is_available.false _ c.in-PastReg.is
 
 pub returns-in-RegAt : goal.returns-in-RegAt
 returns-in-RegAt c =
-    is_reserved _ _ _ _ c.getprop.ensures _ _ _ _ c.in-Some.is _ c.part.ensures _ c.reg_row-first.ensures
+    is_reserved _ _ _ _ c.getprop.ensures _ _ _ _ c.in-Some.is _ c.part-value.ensures _ c.reg_row-first.ensures
     c.if-reserved.true _ c.reserved_memory_node_is_available.ensures c.if-not-reserved_memory_node_is_available.false _ c.in-RegAt.is
 
 pub returns-in-NoReg-first : goal.returns-in-NoReg-first
 returns-in-NoReg-first c =
-    is_device _ _ _ _ c.getprop.ensures _ _ _ _ c.in-Some.is _ c.part.ensures _ c.reg_row-first.ensures c.if-reserved.false _ c.in-NoReg-first.is
+    is_device _ _ _ _ c.getprop.ensures _ _ _ _ c.in-Some.is _ c.part-value.ensures _ c.reg_row-first.ensures c.if-reserved.false _ c.in-NoReg-first.is
 
 pub returns-in-PastReg-first : goal.returns-in-PastReg-first
 returns-in-PastReg-first c =
-    is_device _ _ _ _ c.getprop.ensures _ _ _ _ c.in-Some.is _ c.part.ensures _ c.reg_row-first.ensures c.if-reserved.false _ c.in-PastReg-first.is
+    is_device _ _ _ _ c.getprop.ensures _ _ _ _ c.in-Some.is _ c.part-value.ensures _ c.reg_row-first.ensures c.if-reserved.false _ c.in-PastReg-first.is
 
 pub returns-in-RegAt-first : goal.returns-in-RegAt-first
 returns-in-RegAt-first c =
-    is_device _ _ _ _ c.getprop.ensures _ _ _ _ c.in-Some.is _ c.part.ensures _ c.reg_row-first.ensures c.if-reserved.false _ c.in-RegAt-first.is
+    is_device _ _ _ _ c.getprop.ensures _ _ _ _ c.in-Some.is _ c.part-value.ensures _ c.reg_row-first.ensures c.if-reserved.false _ c.in-RegAt-first.is

@@ -12,9 +12,9 @@ use Rattle.dtb.proofs.register_claims_in.Given as goal
 
 abbrev pub invariant-loop-claim : goal.invariant-loop-claim
 invariant-loop-claim l = Made 4096 l.map
-    × Stands l.structure l.strings l.cursor.next
-    × (registered_all 4096 l.map (claims_in (script l.structure l.strings l.block l.arm l.cursor))
-    ≡ registered_all 4096 l.fn.map (claims_of l.arm (entries_of l.block) (root_at l.structure l.strings)))
+    × Stands l.tree.structure.now l.tree.strings.now l.cursor.next
+    × (registered_all 4096 l.map (claims_in (script l.tree.structure.now l.tree.strings.now l.block l.arm l.cursor))
+    ≡ registered_all 4096 l.fn.map (claims_of l.arm (entries_of l.block) (root_at l.tree.structure.now l.tree.strings.now)))
 
 abbrev pub decreases-loop-claim : goal.decreases-loop-claim
-decreases-loop-claim l = length (script l.structure l.strings l.block l.arm l.cursor)
+decreases-loop-claim l = length (script l.tree.structure.now l.tree.strings.now l.block l.arm l.cursor)

@@ -1,5 +1,5 @@
 -- `register_devicetree` opens the tree, judges it, and registers its claims; each way out is a case of the definition.
-use Rattle.std.specs.Prelude.{Some, None, Ok, Err}
+use Rattle.std.specs.Prelude.{None, Ok, Err}
 use mathlib.Core.Path.{sym, ◌∙◌}
 use Rattle.dtb.proofs.CallLaws.{call_opened, call_tree}
 use Rattle.dtb.proofs.register_devicetree.Goals as goal

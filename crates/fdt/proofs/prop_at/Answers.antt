@@ -9,8 +9,8 @@ returns-then-left-lt12 c = prop_short _ _ _ (omega arith)
 pub returns-then-left-len : goal.returns-then-left-len
 returns-then-left-len c = prop_long _ _ _ _ c.be32-len.ensures.is (omega arith)
 
-pub returns-then-end-strings : goal.returns-then-end-strings
-returns-then-end-strings c = let d = c in prop_is _ _ _ _ _ _ d.be32-len.ensures.is (omega arith) d.be32-name.ensures.is d.byte_from-end.ensures.is c.if-end-strings.true
+pub returns-then-end-tree : goal.returns-then-end-tree
+returns-then-end-tree c = let d = c in prop_is _ _ _ _ _ _ d.be32-len.ensures.is (omega arith) d.be32-name.ensures.is d.byte_from-end.ensures.is c.if-end-tree.true
 
 pub returns : goal.returns
-returns c = let d = c in prop_nameless _ _ _ _ _ _ d.be32-len.ensures.is (omega arith) d.be32-name.ensures.is d.byte_from-end.ensures.is c.if-end-strings.false
+returns c = let d = c in prop_nameless _ _ _ _ _ _ d.be32-len.ensures.is (omega arith) d.be32-name.ensures.is d.byte_from-end.ensures.is c.if-end-tree.false

@@ -7,14 +7,14 @@ use Rattle.fdt.proofs.walk.Goals as goal
 
 pub loop-next-init : goal.loop-next-init
 unfolding walked
-loop-next-init c = (length c.args.structure.now, omega arith, refl)
+loop-next-init c = (length c.args.tree.structure.now, omega arith, refl)
 
 pub loop-next-smaller : goal.loop-next-smaller
 loop-next-smaller c =
     let k = c in
     let l = k in
     let a = l.args in
-    step_less _ _ _ _ (step_is a.structure.now a.strings.now l.loop-next.st _ _ k.token_at.ensures k.stepped.ensures c.in-Go.is)
+    step_less _ _ _ _ (step_is a.tree.structure.now a.tree.strings.now l.loop-next.st _ _ k.token_at.ensures k.stepped.ensures c.in-Go.is)
 
 pub loop-next-preserved : goal.loop-next-preserved
 loop-next-preserved c =
@@ -22,7 +22,7 @@ loop-next-preserved c =
     let l = k in
     let a = l.args in
     let i = l.loop-next.invariant in
-    let r = step_on _ _ _ _ (step_is a.structure.now a.strings.now l.loop-next.st _ _ k.token_at.ensures k.stepped.ensures c.in-Go.is) i.0 i.1 in
+    let r = step_on _ _ _ _ (step_is a.tree.structure.now a.tree.strings.now l.loop-next.st _ _ k.token_at.ensures k.stepped.ensures c.in-Go.is) i.0 i.1 in
     (r.0, r.1, i.2 ∙ r.2)
 
 pub returns-in-Stop : goal.returns-in-Stop
@@ -31,4 +31,4 @@ returns-in-Stop c =
     let l = k in
     let a = l.args in
     let i = l.loop-next.invariant in
-    sym (i.2 ∙ step_off _ _ _ i.0 _ (step_is a.structure.now a.strings.now l.loop-next.st _ _ k.token_at.ensures k.stepped.ensures c.in-Stop.is))
+    sym (i.2 ∙ step_off _ _ _ i.0 _ (step_is a.tree.structure.now a.tree.strings.now l.loop-next.st _ _ k.token_at.ensures k.stepped.ensures c.in-Stop.is))

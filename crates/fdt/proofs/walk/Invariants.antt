@@ -7,7 +7,7 @@ use Rattle.fdt.specs.Walk.{walk_at, walked}
 use Rattle.fdt.proofs.walk.Given as goal
 
 abbrev pub invariant-loop-next : goal.invariant-loop-next
-invariant-loop-next l = (f : ℕ) × (length l.structure ≤ l.st.at + f) × (walked l.structure l.strings ≡ walk_at (suc f) l.structure l.strings l.st)
+invariant-loop-next l = (f : ℕ) × (length l.tree.structure.now ≤ l.st.at + f) × (walked l.tree.structure.now l.tree.strings.now ≡ walk_at (suc f) l.tree.structure.now l.tree.strings.now l.st)
 
 abbrev pub decreases-loop-next : goal.decreases-loop-next
-decreases-loop-next l = length l.structure - l.st.at
+decreases-loop-next l = length l.tree.structure.now - l.st.at

@@ -8,7 +8,7 @@ use Rattle.nodes.specs.Nav.{find_t}
 use Rattle.nodes.proofs.child_from.Given as goal
 
 abbrev pub invariant-loop-q : goal.invariant-loop-q
-invariant-loop-q l = find_t l.step (lex_at l.structure l.strings l.p) 0 ≡ find_t l.step (lex_at l.structure l.strings l.at) 0
+invariant-loop-q l = find_t l.step (lex_at l.tree.structure.now l.tree.strings.now l.p) 0 ≡ find_t l.step (lex_at l.tree.structure.now l.tree.strings.now l.at) 0
 
 abbrev pub decreases-loop-q : goal.decreases-loop-q
-decreases-loop-q l = length l.structure - l.at
+decreases-loop-q l = length l.tree.structure.now - l.at

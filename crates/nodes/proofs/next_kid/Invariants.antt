@@ -6,7 +6,7 @@ use Rattle.nodes.proofs.NavLaws.{Drops}
 use Rattle.nodes.proofs.next_kid.Given as goal
 
 abbrev pub invariant-loop-next : goal.invariant-loop-next
-invariant-loop-next l = Drops l.structure l.strings l.p l.at
+invariant-loop-next l = Drops l.tree.structure.now l.tree.strings.now l.p l.at
 
 abbrev pub decreases-loop-next : goal.decreases-loop-next
-decreases-loop-next l = length l.structure - l.at
+decreases-loop-next l = length l.tree.structure.now - l.at

@@ -6,7 +6,7 @@ use Rattle.nodes.proofs.PathLaws.{Goes}
 use Rattle.nodes.proofs.path_offset.Given as goal
 
 abbrev pub invariant-loop-i : goal.invariant-loop-i
-invariant-loop-i l = Goes l.structure l.strings l.path l.node l.i
+invariant-loop-i l = Goes l.tree.structure.now l.tree.strings.now l.path l.node l.i
 
 abbrev pub decreases-loop-i : goal.decreases-loop-i
 decreases-loop-i l = length l.path - l.i

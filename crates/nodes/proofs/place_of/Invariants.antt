@@ -6,7 +6,7 @@ use Rattle.nodes.proofs.OrderLaws.{Counts}
 use Rattle.nodes.proofs.place_of.Given as goal
 
 abbrev pub invariant-loop-next : goal.invariant-loop-next
-invariant-loop-next l = Counts l.structure l.strings l.target l.at l.begun
+invariant-loop-next l = Counts l.tree.structure.now l.tree.strings.now l.target l.at l.begun
 
 abbrev pub decreases-loop-next : goal.decreases-loop-next
-decreases-loop-next l = length l.structure - l.at
+decreases-loop-next l = length l.tree.structure.now - l.at

@@ -8,7 +8,7 @@ use Rattle.nodes.specs.Nav.{lookup}
 use Rattle.nodes.proofs.prop_from.Given as goal
 
 abbrev pub invariant-loop-next : goal.invariant-loop-next
-invariant-loop-next l = lookup l.name (lex_at l.structure l.strings l.p) ≡ lookup l.name (lex_at l.structure l.strings l.at)
+invariant-loop-next l = lookup l.name (lex_at l.tree.structure.now l.tree.strings.now l.p) ≡ lookup l.name (lex_at l.tree.structure.now l.tree.strings.now l.at)
 
 abbrev pub decreases-loop-next : goal.decreases-loop-next
-decreases-loop-next l = length l.structure - l.at
+decreases-loop-next l = length l.tree.structure.now - l.at

@@ -6,7 +6,7 @@ use Rattle.nodes.proofs.NavLaws.{Skips}
 use Rattle.nodes.proofs.skip.Given as goal
 
 abbrev pub invariant-loop-next : goal.invariant-loop-next
-invariant-loop-next l = Skips l.structure l.strings l.p l.at l.depth
+invariant-loop-next l = Skips l.tree.structure.now l.tree.strings.now l.p l.at l.depth
 
 abbrev pub decreases-loop-next : goal.decreases-loop-next
-decreases-loop-next l = length l.structure - l.at
+decreases-loop-next l = length l.tree.structure.now - l.at

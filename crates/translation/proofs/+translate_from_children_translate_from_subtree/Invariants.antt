@@ -9,14 +9,14 @@ use Rattle.translation.proofs.StepLaws.{Goes}
 use Rattle.translation.proofs.+translate_from_children_translate_from_subtree.Given as goal
 
 abbrev pub decreases-translate_from_children : goal.decreases-translate_from_children
-decreases-translate_from_children l = row_left (at l.structure.now l.strings.now l.first)
+decreases-translate_from_children l = row_left (at l.tree.structure.now l.tree.strings.now l.first)
 
 abbrev pub decreases-translate_from_subtree : goal.decreases-translate_from_subtree
-decreases-translate_from_subtree l = node_left (node_at l.structure.now l.strings.now l.node)
+decreases-translate_from_subtree l = node_left (node_at l.tree.structure.now l.tree.strings.now l.node)
 
 abbrev pub invariant-translate_from_children-loop-child : goal.invariant-translate_from_children-loop-child
 invariant-translate_from_children-loop-child l =
-    Goes l.structure l.strings l.target l.sought l.address l.size l.initial.child l.before l.child l.tried
+    Goes l.tree.structure.now l.tree.strings.now l.target l.sought l.address l.size l.initial.child l.before l.child l.tried
 
 abbrev pub decreases-translate_from_children-loop-child : goal.decreases-translate_from_children-loop-child
-decreases-translate_from_children-loop-child l = count (at l.structure l.strings l.child)
+decreases-translate_from_children-loop-child l = count (at l.tree.structure.now l.tree.strings.now l.child)

@@ -8,15 +8,15 @@ returns-in-Given c = rw c.in-Given.is
 
 pub returns-in-RegAt : goal.returns-in-RegAt
 returns-in-RegAt c =
-    begins_row _ _ _ _ _ _ _ c.in-FirstReg.is _ c.getprop.ensures _ _ _ _ c.in-Some.is c.part.ensures c.reg_row.ensures c.in-RegAt.is
+    begins_row _ _ _ _ _ _ _ c.in-FirstReg.is _ c.getprop.ensures _ _ _ _ c.in-Some.is c.part-value.ensures c.reg_row.ensures c.in-RegAt.is
 
 pub returns-in-PastReg : goal.returns-in-PastReg
 returns-in-PastReg c =
-    begins_row _ _ _ _ _ _ _ c.in-FirstReg.is _ c.getprop.ensures _ _ _ _ c.in-Some.is c.part.ensures c.reg_row.ensures c.in-PastReg.is
+    begins_row _ _ _ _ _ _ _ c.in-FirstReg.is _ c.getprop.ensures _ _ _ _ c.in-Some.is c.part-value.ensures c.reg_row.ensures c.in-PastReg.is
 
 pub returns-in-NoReg : goal.returns-in-NoReg
 returns-in-NoReg c =
-    begins_row _ _ _ _ _ _ _ c.in-FirstReg.is _ c.getprop.ensures _ _ _ _ c.in-Some.is c.part.ensures c.reg_row.ensures c.in-NoReg.is
+    begins_row _ _ _ _ _ _ _ c.in-FirstReg.is _ c.getprop.ensures _ _ _ _ c.in-Some.is c.part-value.ensures c.reg_row.ensures c.in-NoReg.is
 
 pub returns-in-None : goal.returns-in-None
 returns-in-None c =

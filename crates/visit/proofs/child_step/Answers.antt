@@ -11,7 +11,7 @@ overflow_add-row c =
 
 pub returns-in-RegAt : goal.returns-in-RegAt
 returns-in-RegAt c =
-    rw c.with_row.ensures at c.region_step.ensures
+    rw c.with_row-next.ensures at c.region_step.ensures
     ∙ row_is _ _ _ _ _ _ _ _ c.part-entries.ensures c.reg_row.ensures c.in-RegAt.is
 
 pub returns-in-PastReg : goal.returns-in-PastReg
