@@ -4,8 +4,8 @@ use mathlib.Core.Path.{◌≡◌, sym, ◌∙◌, ap, subst}
 use Prim.Native.Nat.{ℕ, suc, ◌+◌, ◌≤◌}
 use mathlib.Core.Bool.{false}
 use mathlib.Core.List.{List, [], ◌∷◌}
-use Rattle.fdt.specs.Tree.{Nodes, none, Tok, fin, flat_k, Level, levels}
 use Rattle.std.specs.Prelude.{Ok}
+use Rattle.fdt.specs.Tree.{Nodes, none, Tok, fin, flat_k, Level, levels}
 use Rattle.grammar.proofs.TreeLaws.{run_l, tree_accepted, levels_tree}
 use Rattle.flattened.specs.Parts.{Part, begins, part_size, parts_toks}
 use Rattle.flattened.specs.Forest.{NamedValue, Forest, bare, tree, tree_parts, nodes_of, levels_of, bare_k, props_size, placed_p, placed_k}

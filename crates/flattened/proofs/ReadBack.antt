@@ -6,11 +6,11 @@ use native.Mathlib.Omega.{arith}
 use mathlib.Core.Bool.{false}
 use mathlib.Core.List.{List, [], ◌∷◌, ◌++◌}
 use lib.ListN.{length}
+use Rattle.std.specs.Prelude.{Some, Ok}
 use Rattle.cells.specs.declared.Region.{Region}
 use Rattle.fdt.specs.Header.{structure_of, strings_of}
 use Rattle.fdt.specs.Tree.{Property, Nodes, none, node, count, height, Tok, begin, ended, prop, fin, bad, flat_p, flat_k, lex_at, tree_of}
 use Rattle.fdt.specs.Opening.{opened_of, blocks_of}
-use Rattle.std.specs.Prelude.{Some, Ok}
 use Rattle.reservations.specs.Reservations.{entries_of}
 use Rattle.grammar.proofs.GrammarLaws.{block_of, tree_is}
 use Rattle.grammar.proofs.OpeningLaws.{opened_exactly}

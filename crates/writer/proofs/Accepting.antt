@@ -8,13 +8,13 @@ use lib.ListN.{length}
 use lib.Dec.{leb, ltb, eqb}
 use mathlib.Core.Logic.{◌⊎◌, inl, inr}
 use borrow.Author.Tests.{leb-true, leb-false, ltb-false, eqb-true, eqb-false, eq-eqb, ne_eqb, not-true}
+use Rattle.std.specs.Prelude.{Result, Ok, Err}
 use Rattle.words.specs.Bytes.{string_end}
 use Rattle.words.proofs.BytesLaws.{never}
 use Rattle.flattened.specs.Parts.{Part, begins, property, ends, part_size, name_size}
 use Rattle.writer.specs.declared.Writer.{Writer}
 use Rattle.writer.specs.declared.WriteRefusal.{WriteRefusal}
 use Rattle.writer.specs.declared.WriteRefusal.TheVariants.{OutOfTurn, OverLimit, NoRoom}
-use Rattle.std.specs.Prelude.{Result, Ok, Err}
 use Rattle.writer.specs.Writer.{Call, reserve, write, finish, write_number, final_size, room_answer, judged, in_turn, in_limits, after, answer_of}
 use Rattle.writer.specs.Calls.{part_at}
 

@@ -5,6 +5,8 @@ use native.Mathlib.Omega.{arith}
 use mathlib.Core.List.{List, [], ◌∷◌, ◌++◌, reverse, reverse-append}
 use lib.ListN.{length, replicate, length-append, length-replicate, length-reverse, take, drop, length-take, length-drop}
 use lib.Seq.{paste-zero}
+use Rattle.std.specs.Prelude.{Result, Ok, Err, IsErrAnd}
+use Rattle.numbers.proofs.Passed.{passed}
 use Rattle.pen.specs.Numbers.{bytes4, bytes8, padding}
 use Rattle.flattened.specs.Parts.{begins, property, ends, name_size, part_bytes, name_bytes}
 use Rattle.flattened.specs.Blob.{header}
@@ -15,8 +17,6 @@ use Rattle.pen.proofs.WritingLaws.{kept}
 use Rattle.writer.proofs.Accepting.{Ended, finish_size}
 use Rattle.writer.specs.declared.Writer.{Writer}
 use Rattle.writer.specs.declared.WriteRefusal.{WriteRefusal}
-use Rattle.numbers.proofs.Passed.{passed}
-use Rattle.std.specs.Prelude.{Result, Ok, Err, IsErrAnd}
 use Rattle.writer.specs.Writer.{Call, finish, after, answer_of}
 use Rattle.writer.specs.Calls.{laid, part_at, end_at, part_laid, reservation_laid, turned, blocks_laid, blob_laid, laid_by, told, unchanged, outcome, wrote, finished}
 

@@ -7,11 +7,11 @@ use mathlib.Core.Bool.{true, false}
 use mathlib.Core.List.{List}
 use lib.ListN.{length}
 use borrow.Author.Tests.{eq-eqb, ne_eqb, le-leb, lt-leb, lt-ltb, le-ltb}
+use Rattle.std.specs.Prelude.{Ok, Err}
 use Rattle.words.specs.Bytes.{string_end}
 use Rattle.flattened.specs.Parts.{begins, property, ends, part_size, name_size}
 use Rattle.writer.specs.declared.Writer.{Writer}
 use Rattle.writer.specs.declared.WriteRefusal.TheVariants.{OutOfTurn, OverLimit, NoRoom}
-use Rattle.std.specs.Prelude.{Ok, Err}
 use Rattle.writer.specs.Writer.{reserve, write, finish, final_size, room_answer, in_turn, in_limits, after, answer_of}
 
 -- ── The size ──

@@ -1,6 +1,6 @@
 -- The writer's place, what each call is answered, and where the writer stands afterwards: document 02, request L1.
-use Rattle.numbers.specs.Number.{number_by}
 use Rattle.std.specs.Prelude.{ℕ, ◌+◌, ◌*◌, ◌-◌, Bool, true, false, cond, ◌&&◌, not, List, length, leb, ltb, eqb, Result, Ok, Err}
+use Rattle.numbers.specs.Number.{number_by}
 use Rattle.words.specs.Bytes.{string_end}
 use Rattle.flattened.specs.Parts.{Part, begins, property, ends, part_size, name_size}
 use Rattle.writer.specs.declared.Writer.{Writer}
