@@ -4,8 +4,8 @@ use mathlib.Core.Path.{◌≡◌, sym, ◌∙◌, ap, subst}
 use Prim.Native.Nat.{ℕ, suc, ◌+◌, ◌≤◌}
 use mathlib.Core.Bool.{false}
 use mathlib.Core.List.{List, [], ◌∷◌}
+use Rattle.std.specs.Prelude.{Ok}
 use Rattle.fdt.specs.Tree.{Nodes, none, Tok, fin, flat_k, Level, levels}
-use Rattle.fdt.specs.declared.Verdict.TheVariants.{Accepted}
 use Rattle.grammar.proofs.TreeLaws.{run_l, tree_accepted, levels_tree}
 use Rattle.flattened.specs.Parts.{Part, begins, part_size, parts_toks}
 use Rattle.flattened.specs.Forest.{NamedValue, Forest, bare, tree, tree_parts, nodes_of, levels_of, bare_k, props_size, placed_p, placed_k}
@@ -48,7 +48,7 @@ module _ (ps ps' : List NamedValue) (kids kids' : Forest) (e : tree_parts ps kid
 
 -- ── The walk accepts the parts of a tree ──
 pub tree_accepts : (lv nd : ℕ) (ps : List NamedValue) (kids : Forest) → suc (levels_of kids) ≤ lv → suc (nodes_of kids) ≤ nd
-    → run_l lv nd (parts_toks 0 (tree_parts ps kids)) 0 0 false ≡ Accepted
+    → run_l lv nd (parts_toks 0 (tree_parts ps kids)) 0 0 false ≡ Ok tt
 unfolding placed_k parts_toks
 tree_accepts lv nd ps kids h c =
     let k = placed_k (0 + part_size (begins []) + props_size ps) kids in

@@ -6,12 +6,11 @@ use native.Mathlib.Omega.{arith}
 use mathlib.Core.Bool.{false}
 use mathlib.Core.List.{List, [], ◌∷◌, ◌++◌}
 use lib.ListN.{length}
+use Rattle.std.specs.Prelude.{Some, Ok}
 use Rattle.cells.specs.declared.Region.{Region}
 use Rattle.fdt.specs.Header.{structure_of, strings_of}
 use Rattle.fdt.specs.Tree.{Property, Nodes, none, node, count, height, Tok, begin, ended, prop, fin, bad, flat_p, flat_k, lex_at, tree_of}
 use Rattle.fdt.specs.Opening.{opened_of, blocks_of}
-use Rattle.fdt.specs.declared.Opened.TheVariants.{Tree}
-use Rattle.fdt.specs.declared.Verdict.TheVariants.{Accepted}
 use Rattle.reservations.specs.Reservations.{entries_of}
 use Rattle.grammar.proofs.GrammarLaws.{block_of, tree_is}
 use Rattle.grammar.proofs.OpeningLaws.{opened_exactly}
@@ -56,7 +55,7 @@ module _ (rs : List Region) (xs : List Part) (z : List ℕ) (limit : blob_size r
     pub blob_written : WrittenFor (structure_of (blob rs xs ++ z)) (strings_of (blob rs xs ++ z)) root ps kids
     blob_written = tokens_read ∙ w
 
-    pub blob_opened : opened_of (blob rs xs ++ z) ≡ Tree (blocks_of (blob rs xs ++ z))
+    pub blob_opened : opened_of (blob rs xs ++ z) ≡ Ok (Some (blocks_of (blob rs xs ++ z)))
     blob_opened =
         (opened_exactly (blob rs xs ++ z)).1 (
           good rs xs z small,
@@ -131,7 +130,7 @@ unfolding bare_k
 height_bare none = refl
 height_bare (node at name ps kids rest) = rw (height_bare kids, height_bare rest)
 
-pub parts_tree : (lv nd : ℕ) → 1 ≤ lv → 1 ≤ nd → (xs : List Part) → run_l lv nd (parts_toks 0 xs) 0 0 false ≡ Accepted
+pub parts_tree : (lv nd : ℕ) → 1 ≤ lv → 1 ≤ nd → (xs : List Part) → run_l lv nd (parts_toks 0 xs) 0 0 false ≡ Ok tt
     → (ps : List NamedValue) × (kids : Forest) × (xs ≡ tree_parts ps kids) × (suc (levels_of kids) ≤ lv) × (suc (nodes_of kids) ≤ nd)
 unfolding parts_of bare_k
 parts_tree lv nd one some xs h =

@@ -1,10 +1,9 @@
 -- What it is for bytes to be read back as a tree with its reservations.
-use Rattle.std.specs.Prelude.{◌≡◌, ℕ, suc, ◌+◌, ◌≤◌, List, []}
+use Rattle.std.specs.Prelude.{◌≡◌, ℕ, suc, ◌+◌, ◌≤◌, List, [], Some, Ok}
 use Rattle.cells.specs.declared.Region.{Region}
 use Rattle.fdt.specs.Header.{structure_of, strings_of}
 use Rattle.fdt.specs.Tree.{tree_of}
 use Rattle.fdt.specs.Opening.{opened_of, blocks_of}
-use Rattle.fdt.specs.declared.Opened.TheVariants.{Tree}
 use Rattle.reservations.specs.Reservations.{block_in, entries_of}
 use Rattle.reading.specs.Reads.{WrittenFor}
 use Rattle.flattened.specs.Parts.{AllClean}
@@ -21,7 +20,7 @@ pub record Within (rs : List Region) (ps : List NamedValue) (kids : Forest) : Ty
 
 -- "the reader must accept it", and it is "read back with the same nodes, properties and reservations in the same order"
 pub record ReadBack (s : List ℕ) (rs : List Region) (ps : List NamedValue) (kids : Forest) : Type 0 where
-  pub opened : opened_of s ≡ Tree (blocks_of s)
+  pub opened : opened_of s ≡ Ok (Some (blocks_of s))
   pub same : bare_k (tree_of (structure_of s) (strings_of s)) ≡ tree [] ps kids bare
   pub entries : entries_of (block_in s (blocks_of s)) ≡ rs
   -- the same with each node's place; by it the theorems of the crate reading hold

@@ -3,16 +3,16 @@
 #![tactic(auto)]
 
 ghost use Rattle.std.specs.Prelude.{◌≡◌, cond};
-ghost use Rattle.write_run.specs.Input.{whole, read_at};
-ghost use Rattle.write_run.specs.Run.{stop_by, step_of, stepped, made_of, ran, ran_of};
+ghost use Rattle.writer.specs.Calls.{outcome, finished};
+ghost use Rattle.write_run.specs.Input.{whole, read_at, call_of};
+ghost use Rattle.write_run.specs.Run.{ran, ran_of};
 
-use writer::{WriteAnswer, Writer, Wrote};
+use writer::{WriteRefusal, Writer};
 
 // What stands at a place: a reservation entry with its address and size; a node that begins, with its name's place and length; a property
-// with the places and lengths of its name and its value; the end of a node; the finish; or none of them.
+// with the places and lengths of its name and its value; the end of a node; or the finish.
 #[derive(Clone, Copy)]
 pub enum CallRead {
-    NoCall,
     Reservation(u64, u64),
     Begin(usize, usize),
     Property(usize, usize, usize, usize),
@@ -20,29 +20,20 @@ pub enum CallRead {
     Finish,
 }
 
-// That, and the place behind it: 0 where no call stands.
+// That, and the place behind it.
 #[derive(Clone, Copy)]
 pub struct Read {
     pub next: usize,
     pub call: CallRead,
 }
 
-// How far the calls went: on to the next one; no call stands here; a call is refused; or the input ends, and the blob is finished or not.
+// What ends a run: no call stands here; a call is refused; or the input ends, and the blob is finished or not.
 #[derive(Clone, Copy)]
 pub enum Stop {
-    Goes,
     NoCall,
-    Refused(WriteAnswer),
+    Refused(WriteRefusal),
     Finished,
     Unfinished,
-}
-
-// The writer after a call, how long the blob is, and whether the calls go on.
-#[derive(Clone, Copy)]
-pub struct Step {
-    pub writer: Writer,
-    pub size: usize,
-    pub stop: Stop,
 }
 
 // How long the finished blob is, or 0; the index of the call that stopped the run, counted from 0, or how many were made; and what
@@ -55,27 +46,21 @@ pub struct WriteRun {
 }
 
 // A call that ends before a place, if the input has all of it.
-fn whole_call(calls: &[u8], next: usize, call: CallRead) -> Read
+fn whole_call(calls: &[u8], next: usize, call: CallRead) -> Option<Read>
     ensures { result ≡ whole calls.now next call }
 {
     if calls.len() < next {
-        return Read {
-            next: 0,
-            call: CallRead::NoCall,
-        };
+        return None;
     }
-    Read { next, call }
+    Some(Read { next, call })
 }
 
-// The call at a place.
-pub fn read_call(calls: &[u8], at: usize) -> Read
+// The call at a place, if one stands there.
+pub fn read_call(calls: &[u8], at: usize) -> Option<Read>
     ensures { result ≡ read_at calls.now at }
 {
     if calls.len() <= at {
-        return Read {
-            next: 0,
-            call: CallRead::NoCall,
-        };
+        return None;
     }
     let letter = calls[at];
     if letter == b'R' {
@@ -99,66 +84,36 @@ pub fn read_call(calls: &[u8], at: usize) -> Read
     if letter == b'F' {
         return whole_call(calls, at + 1, CallRead::Finish);
     }
-    Read {
-        next: 0,
-        call: CallRead::NoCall,
-    }
+    None
 }
 
-// Whether the calls go on after an answer.
-fn stop_by(answer: WriteAnswer) -> Stop
-    ensures { result ≡ stop_by answer }
-{
-    match answer {
-        WriteAnswer::Done => Stop::Goes,
-        WriteAnswer::OutOfTurn => Stop::Refused(answer),
-        WriteAnswer::OverLimit => Stop::Refused(answer),
-        WriteAnswer::NoRoom => Stop::Refused(answer),
-    }
-}
-
-// The step that a call's answer comes to.
-fn step_of(wrote: Wrote) -> Step
-    ensures { result ≡ step_of wrote }
-{
-    let answer = wrote.answer;
-    let writer = wrote.writer;
-    Step {
-        writer,
-        size: 0,
-        stop: stop_by(answer),
-    }
-}
-
-// Makes a call that was read.
-fn make_call(calls: &[u8], call: CallRead, w: Writer, out: &mut [u8]) -> Step
-    ensures { stepped result out.new ≡ made_of calls.now call w out.old }
+// Makes a call that was read, and answers how long the blob is, which finishing tells; any other call tells 0.
+fn make_call(
+    calls: &[u8],
+    call: CallRead,
+    w: &mut Writer,
+    out: &mut [u8],
+) -> Result<usize, WriteRefusal>
+    ensures { finished w.new result out.new ≡ outcome w.old (call_of calls.now call) out.old }
 {
     match call {
-        CallRead::NoCall => Step {
-            writer: w,
-            size: 0,
-            stop: Stop::NoCall,
-        },
-        CallRead::Reservation(address, size) => step_of(writer::reservation(w, out, address, size)),
-        CallRead::Begin(at, n) => step_of(writer::begin_node(w, out, words::part(calls, at, n))),
-        CallRead::Property(at, n, value, v) => step_of(writer::property(
-            w,
-            out,
-            words::part(calls, at, n),
-            words::part(calls, value, v),
-        )),
-        CallRead::End => step_of(writer::end_node(w, out)),
-        CallRead::Finish => {
-            let r = writer::finish(w, out);
-            let answer = r.answer;
-            let writer = r.writer;
-            Step {
-                writer,
-                size: r.size,
-                stop: stop_by(answer),
-            }
+        CallRead::Reservation(address, size) => {
+            w.reservation(out, address, size)?;
+            Ok(0)
         }
+        CallRead::Begin(at, n) => {
+            w.begin_node(out, words::part(calls, at, n))?;
+            Ok(0)
+        }
+        CallRead::Property(at, n, value, v) => {
+            w.property(out, words::part(calls, at, n), words::part(calls, value, v))?;
+            Ok(0)
+        }
+        CallRead::End => {
+            w.end_node(out)?;
+            Ok(0)
+        }
+        CallRead::Finish => w.finish(out),
     }
 }
 
@@ -177,25 +132,29 @@ fn end_of(done: bool) -> Stop
 pub fn write_calls(calls: &[u8], out: &mut [u8]) -> WriteRun
     ensures { ran result out.new ≡ ran_of calls.now out.old }
 {
-    let mut w = writer::start();
+    let mut w = Writer::start();
     let mut size: usize = 0;
     let mut index: usize = 0;
     let mut at: usize = 0;
     // A `while`: calls are of varying length, and the reading of each tells where the next begins.
     while at < calls.len() {
-        let read = read_call(calls, at);
-        let call = read.call;
-        let step = make_call(calls, call, w, out);
-        let stop = step.stop;
-        let Stop::Goes = stop else {
+        let Some(read) = read_call(calls, at) else {
             return WriteRun {
                 size: 0,
                 index,
-                stop,
+                stop: Stop::NoCall,
             };
         };
-        w = step.writer;
-        size = step.size;
+        size = match make_call(calls, read.call, &mut w, out) {
+            Ok(told) => told,
+            Err(refusal) => {
+                return WriteRun {
+                    size: 0,
+                    index,
+                    stop: Stop::Refused(refusal),
+                };
+            }
+        };
         at = read.next;
         index += 1;
     }

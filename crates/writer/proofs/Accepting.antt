@@ -8,21 +8,22 @@ use lib.ListN.{length}
 use lib.Dec.{leb, ltb, eqb}
 use mathlib.Core.Logic.{◌⊎◌, inl, inr}
 use borrow.Author.Tests.{leb-true, leb-false, ltb-false, eqb-true, eqb-false, eq-eqb, ne_eqb, not-true}
+use Rattle.std.specs.Prelude.{Result, Ok, Err}
 use Rattle.words.specs.Bytes.{string_end}
 use Rattle.words.proofs.BytesLaws.{never}
 use Rattle.flattened.specs.Parts.{Part, begins, property, ends, part_size, name_size}
 use Rattle.writer.specs.declared.Writer.{Writer}
-use Rattle.writer.specs.declared.WriteAnswer.{WriteAnswer}
-use Rattle.writer.specs.declared.WriteAnswer.TheVariants.{Done, OutOfTurn, OverLimit, NoRoom}
+use Rattle.writer.specs.declared.WriteRefusal.{WriteRefusal}
+use Rattle.writer.specs.declared.WriteRefusal.TheVariants.{OutOfTurn, OverLimit, NoRoom}
 use Rattle.writer.specs.Writer.{Call, reserve, write, finish, write_number, final_size, room_answer, judged, in_turn, in_limits, after, answer_of}
 use Rattle.writer.specs.Calls.{part_at}
 
--- 0 is Done's number alone
-pub done_is : (a : WriteAnswer) → write_number a ≡ 0 → a ≡ Done
-done_is Done h = refl
-done_is OutOfTurn h = absurd (omega arith)
-done_is OverLimit h = absurd (omega arith)
-done_is NoRoom h = absurd (omega arith)
+-- no refusal has the number 0
+pub done_is : (a : Result Unit WriteRefusal) → write_number a ≡ 0 → a ≡ Ok tt
+done_is (Ok _) h = refl
+done_is (Err OutOfTurn) h = absurd (omega arith)
+done_is (Err OverLimit) h = absurd (omega arith)
+done_is (Err NoRoom) h = absurd (omega arith)
 
 pub record Passed (turn within : Bool) (size room : ℕ) : Type 0 where
   pub turned : turn ≡ true
@@ -30,22 +31,22 @@ pub record Passed (turn within : Bool) (size room : ℕ) : Type 0 where
   pub small : size ≤ 1048576
   pub fits : size ≤ room
 
-room_passed : (size room : ℕ) → room_answer size room ≡ Done → (size ≤ 1048576) × (size ≤ room)
+room_passed : (size room : ℕ) → room_answer size room ≡ Ok tt → (size ≤ 1048576) × (size ≤ room)
 unfolding room_answer
 room_passed size room h = go (leb size 1048576) refl (leb size room) refl h
   where
-    go : (a : Bool) → leb size 1048576 ≡ a → (b : Bool) → leb size room ≡ b → cond a (cond b Done NoRoom) OverLimit ≡ Done → (size ≤ 1048576) × (size ≤ room)
+    go : (a : Bool) → leb size 1048576 ≡ a → (b : Bool) → leb size room ≡ b → ◌≡◌ {A = Result Unit WriteRefusal} (cond a (cond b (Ok tt) (Err NoRoom)) (Err OverLimit)) (Ok tt) → (size ≤ 1048576) × (size ≤ room)
     go true p true q h = (leb-true _ _ p, leb-true _ _ q)
     go true p false q h = never (cc)
     go false p b q h = never (cc)
 
-passed : (turn within : Bool) (size room : ℕ) → judged turn within size room ≡ Done → Passed turn within size room
+passed : (turn within : Bool) (size room : ℕ) → judged turn within size room ≡ Ok tt → Passed turn within size room
 passed true true size room h = let r = room_passed size room h in record { turned = refl; limits = refl; small = r.0; fits = r.1 }
 passed true false size room h = never (cc)
 passed false within size room h = never (cc)
 
 -- a call that is done was in turn, within the limits, and its blob fits
-pub call_passed : (w : Writer) (c : Call) (room : ℕ) → answer_of w c room ≡ Done → Passed (in_turn w c) (in_limits w c) (final_size (after w c)) room
+pub call_passed : (w : Writer) (c : Call) (room : ℕ) → answer_of w c room ≡ Ok tt → Passed (in_turn w c) (in_limits w c) (final_size (after w c)) room
 unfolding answer_of
 call_passed w c room h = passed (in_turn w c) (in_limits w c) (final_size (after w c)) room h
 
@@ -66,9 +67,6 @@ begin_limits w name h =
     (leb-false _ _ (not-true _ b.0), leb-false _ _ (not-true _ b.1))
 
 -- ── What a call that is done asks of the buffer ──
--- from what the code has at hand: the answer, its number, and that this is 0
-pub answered : (w : Writer) (c : Call) (room : ℕ) {a : WriteAnswer} {k : ℕ} → a ≡ answer_of w c room → k ≡ write_number a → k ≡ 0 → answer_of w c room ≡ Done
-answered w c room {a} is told zero = sym is ∙ done_is a (sym told ∙ zero)
 
 pub record Room (w : Writer) (x : Part) (room : ℕ) : Type 0 where
   pub fits : part_at w + part_size x + 4 + (w.strings + name_size x) ≤ room
@@ -90,25 +88,25 @@ end_space : (w : Writer) → part_at w + 4 + w.strings ≤ final_size (after w f
 unfolding final_size after
 end_space w = omega arith
 
-module _ (w : Writer) (room : ℕ) {a : WriteAnswer} {k : ℕ} (told : k ≡ write_number a) (zero : k ≡ 0) where
+module _ (w : Writer) (room : ℕ) {a : Result Unit WriteRefusal} (done : a ≡ Ok tt) where
   pub part_room : (x : Part) → a ≡ answer_of w (write x) room → Room w x room
   part_room x is =
-      let p = call_passed w (write x) room (answered w (write x) room is told zero) in
+      let p = call_passed w (write x) room (sym is ∙ done) in
       let s = part_space w x in
       record { fits = omega arith; small = omega arith }
 
   pub begin_few : (name : List ℕ) → a ≡ answer_of w (write (begins name)) room → (w.depth < 32) × (w.nodes < 4096)
-  begin_few name is = begin_limits w name (call_passed w (write (begins name)) room (answered w (write (begins name)) room is told zero)).limits
+  begin_few name is = begin_limits w name (call_passed w (write (begins name)) room (sym is ∙ done)).limits
 
   pub entry_room : (address size : ℕ) → a ≡ answer_of w (reserve address size) room → Entered w room
   entry_room address size is =
-      let p = call_passed w (reserve address size) room (answered w (reserve address size) room is told zero) in
+      let p = call_passed w (reserve address size) room (sym is ∙ done) in
       let s = entry_space w address size in
       record { fits = omega arith; small = omega arith }
 
   pub finish_room : a ≡ answer_of w finish room → Ended w room
   finish_room is =
-      let p = call_passed w finish room (answered w finish room is told zero) in
+      let p = call_passed w finish room (sym is ∙ done) in
       let s = end_space w in
       record { fits = omega arith; small = omega arith }
 
@@ -182,14 +180,14 @@ finish_turn w h =
     record { going = not-true _ a.0; rooted = eqb-false _ _ (not-true _ b.0); outside = eqb-true _ _ b.1 }
 
 -- ── The same from what the code has at hand ──
-module _ (w : Writer) (room : ℕ) {a : WriteAnswer} {k : ℕ} (told : k ≡ write_number a) (zero : k ≡ 0) where
+module _ (w : Writer) (room : ℕ) {a : Result Unit WriteRefusal} (done : a ≡ Ok tt) where
   pub end_inside : a ≡ answer_of w (write ends) room → w.depth ≡ 0 → ⊥
-  end_inside is = (end_turn w (call_passed w (write ends) room (answered w (write ends) room is told zero)).turned).inside
+  end_inside is = (end_turn w (call_passed w (write ends) room (sym is ∙ done)).turned).inside
 
   -- at the end no node is open, and one has begun: the blob is as long as what stands
   pub finish_size : a ≡ answer_of w finish room → part_at w + 4 + w.strings ≡ final_size w
   unfolding final_size
   finish_size is =
-      let t = finish_turn w (call_passed w finish room (answered w finish room is told zero)).turned in
+      let t = finish_turn w (call_passed w finish room (sym is ∙ done)).turned in
       let d = t.outside in
       rw (ne_eqb _ _ t.rooted) (omega arith)

@@ -5,6 +5,8 @@ use native.Mathlib.Omega.{arith}
 use mathlib.Core.List.{List, [], ◌∷◌, ◌++◌, reverse, reverse-append}
 use lib.ListN.{length, replicate, length-append, length-replicate, length-reverse, take, drop, length-take, length-drop}
 use lib.Seq.{paste-zero}
+use Rattle.std.specs.Prelude.{Result, Ok, Err, IsErrAnd}
+use Rattle.numbers.proofs.Passed.{passed}
 use Rattle.pen.specs.Numbers.{bytes4, bytes8, padding}
 use Rattle.flattened.specs.Parts.{begins, property, ends, name_size, part_bytes, name_bytes}
 use Rattle.flattened.specs.Blob.{header}
@@ -12,12 +14,11 @@ use Rattle.flattened.proofs.HeaderLaws.{header_length}
 use Rattle.pen.proofs.LengthLaws.{bytes4_length}
 use Rattle.pen.specs.Writing.{Writes, Put}
 use Rattle.pen.proofs.WritingLaws.{kept}
-use Rattle.writer.proofs.Accepting.{Ended, answered, finish_size}
+use Rattle.writer.proofs.Accepting.{Ended, finish_size}
 use Rattle.writer.specs.declared.Writer.{Writer}
-use Rattle.writer.specs.declared.WriteAnswer.{WriteAnswer}
-use Rattle.writer.specs.declared.WriteAnswer.TheVariants.{Done, OutOfTurn, OverLimit, NoRoom}
-use Rattle.writer.specs.Writer.{Call, finish, on_done, write_number, after, answer_of}
-use Rattle.writer.specs.Calls.{laid, part_at, end_at, part_laid, reservation_laid, turned, blocks_laid, blob_laid, laid_by, told, taken, unchanged, outcome}
+use Rattle.writer.specs.declared.WriteRefusal.{WriteRefusal}
+use Rattle.writer.specs.Writer.{Call, finish, after, answer_of}
+use Rattle.writer.specs.Calls.{laid, part_at, end_at, part_laid, reservation_laid, turned, blocks_laid, blob_laid, laid_by, told, unchanged, outcome, wrote, finished}
 
 -- ── The bytes of a part ──
 pub begin_bytes : (name : List ℕ) → bytes4 1 ++ (name ++ replicate ((length name + 4) / 4 * 4 - length name) 0) ≡ part_bytes 0 (begins name)
@@ -35,20 +36,18 @@ pub name_bytes_lem : (name : List ℕ) → replicate 1 0 ++ reverse name ≡ rev
 name_bytes_lem name = sym (reverse-append name (0 ∷ []))
 
 -- ── What a call leaves ──
-module _ (w : Writer) (c : Call) (buf : List ℕ) {a : WriteAnswer} (is : a ≡ answer_of w c (length buf)) {k : ℕ} (told-number : k ≡ write_number a) where
-  pub refused : (k ≡ 0 → ⊥) → unchanged w buf a ≡ outcome w c buf
+module _ (w : Writer) (c : Call) (buf : List ℕ) {a : Result Unit WriteRefusal} (is : a ≡ answer_of w c (length buf)) where
+  refused_outcome : {e : WriteRefusal} → a ≡ Err e → unchanged w buf (Err e) ≡ outcome w c buf
   unfolding outcome
-  refused n = rw (← is) (not_done a (λ z. n (told-number ∙ z)))
-    where
-      not_done : (a : WriteAnswer) → (write_number a ≡ 0 → ⊥) → unchanged w buf a ≡ on_done a (taken w c buf) (unchanged w buf a)
-      not_done Done n = absurd (n refl)
-      not_done OutOfTurn n = refl
-      not_done OverLimit n = refl
-      not_done NoRoom n = refl
+  refused_outcome met = rw (sym is ∙ met)
 
-  pub made : k ≡ 0 → {buf' : List ℕ} → buf' ≡ laid_by w c buf → record { writer = after w c; size = told w c; answer = Done; buffer = buf' } ≡ outcome w c buf
+  -- `?` hands on the refusal that it met
+  pub refused : {e : WriteRefusal} → a ≡ Err e → (r : Result Unit WriteRefusal) → IsErrAnd r (λ y. y ≡ e) → wrote w r buf ≡ outcome w c buf
+  refused met r h = rw (passed r h) (refused_outcome met)
+
+  pub made : a ≡ Ok tt → {buf' : List ℕ} → buf' ≡ laid_by w c buf → record { writer = after w c; size = told w c; answer = Ok tt; buffer = buf' } ≡ outcome w c buf
   unfolding outcome
-  made z e = rw (answered w c (length buf) is told-number z, e)
+  made done e = rw (sym is ∙ done, e)
 
 module _ (w : Writer) {buf buf' : List ℕ} {r : ℕ} where
   pub lay_begin : (name : List ℕ) → Writes buf (part_at w) (part_bytes 0 (begins name)) buf' r → buf' ≡ part_laid w (begins name) buf
@@ -111,7 +110,10 @@ module _ (w : Writer) (buf : List ℕ) (r : Ended w (length buf)) {b1 b2 b3 b4 b
       h5.put ∙ ap (λ (s : List ℕ). laid s 0 (header (16 * (w.reserved + 1)) (w.structure + 4) w.strings)) e4
 
 -- the length that is told is that of what stands
-module _ (w : Writer) (buf : List ℕ) {a : WriteAnswer} (is : a ≡ answer_of w finish (length buf)) {k : ℕ} (told-number : k ≡ write_number a) (zero : k ≡ 0) where
-  pub finish_made : {buf' : List ℕ} → buf' ≡ blob_laid w buf → record { writer = after w finish; size = part_at w + 4 + w.strings; answer = Done; buffer = buf' } ≡ outcome w finish buf
-  finish_made {buf'} e =
-      ap (λ (n : ℕ). record { writer = after w finish; size = n; answer = Done; buffer = buf' }) (finish_size w (length buf) told-number zero is) ∙ made w finish buf is told-number zero e
+module _ (w : Writer) (buf : List ℕ) {a : Result Unit WriteRefusal} (is : a ≡ answer_of w finish (length buf)) where
+  pub finish_refused : {e : WriteRefusal} → a ≡ Err e → (r : Result ℕ WriteRefusal) → IsErrAnd r (λ y. y ≡ e) → finished w r buf ≡ outcome w finish buf
+  finish_refused met r h = rw (passed r h) (refused_outcome w finish buf is met)
+
+  pub finish_made : a ≡ Ok tt → {buf' : List ℕ} → buf' ≡ blob_laid w buf → finished (after w finish) (Ok (part_at w + 4 + w.strings)) buf' ≡ outcome w finish buf
+  finish_made done {buf'} e =
+      ap (λ (n : ℕ). finished (after w finish) (Ok n) buf') (finish_size w (length buf) done is) ∙ made w finish buf is done e

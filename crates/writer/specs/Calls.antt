@@ -1,14 +1,11 @@
 -- What each call leaves, whole: the writer, how long the blob is, the answer and every byte of the buffer. Document 02, request L1.
-use Rattle.std.specs.Prelude.{ℕ, ◌+◌, ◌*◌, ◌-◌, List, ◌++◌, reverse, length, take, drop, replicate}
+use Rattle.std.specs.Prelude.{ℕ, ◌+◌, ◌*◌, ◌-◌, List, ◌++◌, reverse, length, take, drop, replicate, Result, Ok, Err}
 use Rattle.std.proofs.Math.Seq.{paste}
 use Rattle.pen.specs.Numbers.{bytes4, bytes8}
 use Rattle.flattened.specs.Parts.{Part, part_bytes, name_bytes, name_size}
 use Rattle.flattened.specs.Blob.{header}
 use Rattle.writer.specs.declared.Writer.{Writer}
-use Rattle.writer.specs.declared.Wrote.{Wrote}
-use Rattle.writer.specs.declared.Finished.{Finished}
-use Rattle.writer.specs.declared.WriteAnswer.{WriteAnswer}
-use Rattle.writer.specs.declared.WriteAnswer.TheVariants.{Done}
+use Rattle.writer.specs.declared.WriteRefusal.{WriteRefusal}
 use Rattle.writer.specs.Writer.{Call, reserve, write, finish, on_done, after, final_size, answer_of}
 
 -- the bytes t put at a place
@@ -63,23 +60,25 @@ told w finish = final_size w
 pub record Outcome : Type 0 where
   pub writer : Writer
   pub size : ℕ
-  pub answer : WriteAnswer
+  pub answer : Result Unit WriteRefusal
   pub buffer : List ℕ
 
 abbrev pub taken : Writer → Call → List ℕ → Outcome
-taken w c buf = record { writer = after w c; size = told w c; answer = Done; buffer = laid_by w c buf }
+taken w c buf = record { writer = after w c; size = told w c; answer = Ok tt; buffer = laid_by w c buf }
 
 -- "A refused call leaves the buffer and the writer's place unchanged."
-abbrev pub unchanged : Writer → List ℕ → WriteAnswer → Outcome
+abbrev pub unchanged : Writer → List ℕ → Result Unit WriteRefusal → Outcome
 unchanged w buf a = record { writer = w; size = 0; answer = a; buffer = buf }
 
 -- A CALL c of the writer w on the buffer buf
 unfoldable pub outcome : Writer → Call → List ℕ → Outcome
 outcome w c buf = on_done (answer_of w c (length buf)) (taken w c buf) (unchanged w buf (answer_of w c (length buf)))
 
--- ── What the calls hand back, as that ──
-abbrev pub wrote : Wrote → List ℕ → Outcome
-wrote r buf = record { writer = r.writer; size = 0; answer = r.answer; buffer = buf }
+-- ── What the calls answer, with the writer that they leave, as that ──
+abbrev pub wrote : Writer → Result Unit WriteRefusal → List ℕ → Outcome
+wrote w a buf = record { writer = w; size = 0; answer = a; buffer = buf }
 
-abbrev pub finished : Finished → List ℕ → Outcome
-finished r buf = record { writer = r.writer; size = r.size; answer = r.answer; buffer = buf }
+-- a finish that is done tells how long the blob is
+abbrev pub finished : Writer → Result ℕ WriteRefusal → List ℕ → Outcome
+finished w (Ok size) buf = record { writer = w; size = size; answer = Ok tt; buffer = buf }
+finished w (Err r) buf = unchanged w buf (Err r)

@@ -1,10 +1,11 @@
 -- The writer's place, what each call is answered, and where the writer stands afterwards: document 02, request L1.
-use Rattle.std.specs.Prelude.{ℕ, ◌+◌, ◌*◌, ◌-◌, Bool, true, false, cond, ◌&&◌, not, List, length, leb, ltb, eqb}
+use Rattle.std.specs.Prelude.{ℕ, ◌+◌, ◌*◌, ◌-◌, Bool, true, false, cond, ◌&&◌, not, List, length, leb, ltb, eqb, Result, Ok, Err}
+use Rattle.numbers.specs.Number.{number_by}
 use Rattle.words.specs.Bytes.{string_end}
 use Rattle.flattened.specs.Parts.{Part, begins, property, ends, part_size, name_size}
 use Rattle.writer.specs.declared.Writer.{Writer}
-use Rattle.writer.specs.declared.WriteAnswer.{WriteAnswer}
-use Rattle.writer.specs.declared.WriteAnswer.TheVariants.{Done, OutOfTurn, OverLimit, NoRoom}
+use Rattle.writer.specs.declared.WriteRefusal.{WriteRefusal}
+use Rattle.writer.specs.declared.WriteRefusal.TheVariants.{OutOfTurn, OverLimit, NoRoom}
 
 -- THE FIVE CALLS: "begin node, property, end node, reservation entry, finish"
 pub data Call : Type 0 where
@@ -14,17 +15,17 @@ pub data Call : Type 0 where
   finish : Call
 
 -- "Refusals, in order: 10 ..; 6; 11 .."; "0 is done." (document 01)
-abbrev pub write_number : WriteAnswer → ℕ
-write_number Done = 0
-write_number OutOfTurn = 10
-write_number OverLimit = 6
-write_number NoRoom = 11
+abbrev pub refusal_number : WriteRefusal → ℕ
+refusal_number OutOfTurn = 10
+refusal_number OverLimit = 6
+refusal_number NoRoom = 11
 
-abbrev pub on_done : {A : Type 0} → WriteAnswer → A → A → A
-on_done Done x y = x
-on_done OutOfTurn x y = y
-on_done OverLimit x y = y
-on_done NoRoom x y = y
+abbrev pub write_number : Result Unit WriteRefusal → ℕ
+write_number = number_by refusal_number
+
+abbrev pub on_done : {A : Type 0} → Result Unit WriteRefusal → A → A → A
+on_done (Ok _) x y = x
+on_done (Err _) x y = y
 
 -- ── Where a writer stands ──
 abbrev pub writer : ℕ → ℕ → ℕ → ℕ → ℕ → Bool → Bool → Writer
@@ -72,13 +73,13 @@ in_limits w (write ends) = true
 in_limits w finish = true
 
 -- a blob of this size, for a buffer of so many bytes: 6, then 11. "6 counts its bytes too"
-unfoldable pub room_answer : ℕ → ℕ → WriteAnswer
-room_answer size room = cond (leb size 1048576) (cond (leb size room) Done NoRoom) OverLimit
+unfoldable pub room_answer : ℕ → ℕ → Result Unit WriteRefusal
+room_answer size room = cond (leb size 1048576) (cond (leb size room) (Ok tt) (Err NoRoom)) (Err OverLimit)
 
 -- "Refusals, in order": 10, 6, 11
-abbrev pub judged : Bool → Bool → ℕ → ℕ → WriteAnswer
-judged turn within size room = cond turn (cond within (room_answer size room) OverLimit) OutOfTurn
+abbrev pub judged : Bool → Bool → ℕ → ℕ → Result Unit WriteRefusal
+judged turn within size room = cond turn (cond within (room_answer size room) (Err OverLimit)) (Err OutOfTurn)
 
 -- "11 exactly when the blob that this call and then only closing calls .. would finish is longer than the buffer"
-unfoldable pub answer_of : Writer → Call → ℕ → WriteAnswer
+unfoldable pub answer_of : Writer → Call → ℕ → Result Unit WriteRefusal
 answer_of w c room = judged (in_turn w c) (in_limits w c) (final_size (after w c)) room

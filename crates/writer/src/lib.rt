@@ -1,6 +1,6 @@
-// A writer of flattened trees into a lent buffer: request L1 of document 02. Its place is a value that is handed in and back. While it
-// writes, the names grow down from the buffer's end, last byte first; finishing turns them round behind the structure. No call asks anything:
-// every writer value, buffer, name and value gets an answer.
+// A writer of flattened trees into a lent buffer: request L1 of document 02. Each call changes the writer's place, and a refused one nothing.
+// While it writes, the names grow down from the buffer's end, last byte first; finishing turns them round behind the structure. No call asks
+// anything: every writer value, buffer, name and value gets an answer.
 #![tactic(auto)]
 
 ghost use Rattle.std.specs.Prelude.{◌≡◌, [], ◌∷◌, ◌++◌, reverse, ◌+◌, ◌≤◌, length};
@@ -8,8 +8,10 @@ ghost use Rattle.flattened.specs.Parts.{begins, property, ends, part_size, part_
 ghost use Rattle.flattened.specs.Blob.{header};
 ghost use Rattle.pen.specs.Numbers.{bytes4};
 ghost use Rattle.pen.specs.Writing.{Writes};
-ghost use Rattle.writer.specs.Writer.{reserve, write, finish, write_number, fresh, final_size, room_answer, answer_of};
+ghost use Rattle.writer.specs.Writer.{reserve, write, finish, refusal_number, fresh, final_size, room_answer, answer_of};
 ghost use Rattle.writer.specs.Calls.{outcome, wrote, finished};
+
+use numbers::Numbered;
 
 // Where a writer stands: the reservations, the bytes of the structure block and of the strings block, the open nodes, the nodes begun,
 // whether a property may stand here, and whether it has finished.
@@ -24,202 +26,37 @@ pub struct Writer {
     pub done: bool,
 }
 
-// What a call answers, in the order in which this is checked. Each case has its number in document 02.
+// Why a call is refused, in the order in which this is checked. Each case has its number in document 02.
 #[derive(Clone, Copy)]
-pub enum WriteAnswer {
-    Done,
+pub enum WriteRefusal {
     OutOfTurn,
     OverLimit,
     NoRoom,
 }
 
-impl WriteAnswer {
-    pub fn number(self) -> u8
-        ensures { result ≡ write_number self }
-    {
+impl Numbered for WriteRefusal {
+    ghost number_of = { refusal_number };
+
+    fn number(self) -> u8 {
         match self {
-            WriteAnswer::Done => 0,
-            WriteAnswer::OutOfTurn => 10,
-            WriteAnswer::OverLimit => 6,
-            WriteAnswer::NoRoom => 11,
+            WriteRefusal::OutOfTurn => 10,
+            WriteRefusal::OverLimit => 6,
+            WriteRefusal::NoRoom => 11,
         }
     }
 }
 
-// The writer after a call, and the answer.
-#[derive(Clone, Copy)]
-pub struct Wrote {
-    pub writer: Writer,
-    pub answer: WriteAnswer,
-}
-
-// The same after finishing, with how many bytes the blob has: 0 where it is refused.
-#[derive(Clone, Copy)]
-pub struct Finished {
-    pub writer: Writer,
-    pub size: usize,
-    pub answer: WriteAnswer,
-}
-
-// A writer that has written nothing.
-pub fn start() -> Writer
-    ensures { result ≡ fresh }
-{
-    Writer {
-        reserved: 0,
-        structure: 0,
-        strings: 0,
-        depth: 0,
-        nodes: 0,
-        props: false,
-        done: false,
-    }
-}
-
-// Whether the blob, with so many bytes more than closing calls alone would finish, is within the limit and the buffer.
-fn room_for(w: Writer, more: usize, room: usize) -> WriteAnswer
-    ensures { result ≡ room_answer (final_size w + more) room }
-{
-    let reserved = w.reserved;
-    let structure = w.structure;
-    let strings = w.strings;
-    let depth = w.depth;
-    if 1048576 < reserved {
-        return WriteAnswer::OverLimit;
-    }
-    if 1048576 < structure {
-        return WriteAnswer::OverLimit;
-    }
-    if 1048576 < strings {
-        return WriteAnswer::OverLimit;
-    }
-    if 1048576 < depth {
-        return WriteAnswer::OverLimit;
-    }
-    if 1048576 < more {
-        return WriteAnswer::OverLimit;
-    }
-    let size = 40 + 16 * (reserved + 1) + structure + 4 * depth + 4 + strings + more;
-    if w.nodes == 0 {
-        return sized(size + 12, room);
-    }
-    sized(size, room)
-}
-
-fn sized(size: usize, room: usize) -> WriteAnswer
+// Whether a blob of so many bytes is within the limit and the buffer.
+fn sized(size: usize, room: usize) -> Result<(), WriteRefusal>
     ensures { result ≡ room_answer size room }
 {
     if 1048576 < size {
-        return WriteAnswer::OverLimit;
+        return Err(WriteRefusal::OverLimit);
     }
     if room < size {
-        return WriteAnswer::NoRoom;
+        return Err(WriteRefusal::NoRoom);
     }
-    WriteAnswer::Done
-}
-
-fn judge_reservation(w: Writer, address: u64, size: u64, room: usize) -> WriteAnswer
-    ensures { result ≡ answer_of w (reserve address size) room }
-{
-    if w.done {
-        return WriteAnswer::OutOfTurn;
-    }
-    if w.nodes != 0 {
-        return WriteAnswer::OutOfTurn;
-    }
-    if address != 0 {
-        return room_for(w, 16, room);
-    }
-    if size != 0 {
-        return room_for(w, 16, room);
-    }
-    WriteAnswer::OutOfTurn
-}
-
-fn judge_begin(w: Writer, name: &[u8], room: usize) -> WriteAnswer
-    ensures { result ≡ answer_of w (write (begins name.now)) room }
-{
-    let depth = w.depth;
-    let nodes = w.nodes;
-    if w.done {
-        return WriteAnswer::OutOfTurn;
-    }
-    if words::byte_from(name, 0, 0) < name.len() {
-        return WriteAnswer::OutOfTurn;
-    }
-    if nodes == 0 {
-        if depth != 0 {
-            return WriteAnswer::OutOfTurn;
-        }
-        if name.len() != 0 {
-            return WriteAnswer::OutOfTurn;
-        }
-        return room_for(w, 0, room);
-    }
-    if depth == 0 {
-        return WriteAnswer::OutOfTurn;
-    }
-    if 32 <= depth {
-        return WriteAnswer::OverLimit;
-    }
-    if 4096 <= nodes {
-        return WriteAnswer::OverLimit;
-    }
-    if 1048576 < name.len() {
-        return WriteAnswer::OverLimit;
-    }
-    room_for(w, 8 + (name.len() + 4) / 4 * 4, room)
-}
-
-fn judge_property<'a>(w: Writer, name: &'a [u8], value: &'a [u8], room: usize) -> WriteAnswer
-    ensures { result ≡ answer_of w (write (property name.now value.now)) room }
-{
-    if w.done {
-        return WriteAnswer::OutOfTurn;
-    }
-    if !w.props {
-        return WriteAnswer::OutOfTurn;
-    }
-    if words::byte_from(name, 0, 0) < name.len() {
-        return WriteAnswer::OutOfTurn;
-    }
-    if 1048576 < name.len() {
-        return WriteAnswer::OverLimit;
-    }
-    if 1048576 < value.len() {
-        return WriteAnswer::OverLimit;
-    }
-    room_for(w, 12 + (value.len() + 3) / 4 * 4 + (name.len() + 1), room)
-}
-
-fn judge_end(w: Writer, room: usize) -> WriteAnswer
-    ensures { result ≡ answer_of w (write ends) room }
-{
-    if w.done {
-        return WriteAnswer::OutOfTurn;
-    }
-    if w.nodes == 0 {
-        return WriteAnswer::OutOfTurn;
-    }
-    if w.depth == 0 {
-        return WriteAnswer::OutOfTurn;
-    }
-    room_for(w, 0, room)
-}
-
-fn judge_finish(w: Writer, room: usize) -> WriteAnswer
-    ensures { result ≡ answer_of w finish room }
-{
-    if w.done {
-        return WriteAnswer::OutOfTurn;
-    }
-    if w.nodes == 0 {
-        return WriteAnswer::OutOfTurn;
-    }
-    if w.depth != 0 {
-        return WriteAnswer::OutOfTurn;
-    }
-    room_for(w, 0, room)
+    Ok(())
 }
 
 // The bytes of a node's begin: its name, its zero byte and padding.
@@ -273,143 +110,239 @@ fn put_header(out: &mut [u8], m: usize, b: usize, n: usize) -> usize
     pen::put32(out, p9, b)
 }
 
-// Writes a reservation entry.
-pub fn reservation(w: Writer, out: &mut [u8], address: u64, size: u64) -> Wrote
-    ensures { wrote result out.new ≡ outcome w (reserve address size) out.old }
-{
-    let answer = judge_reservation(w, address, size, out.len());
-    if answer.number() != 0 {
-        return Wrote { writer: w, answer };
+impl Writer {
+    // A writer that has written nothing.
+    pub fn start() -> Writer
+        ensures { result ≡ fresh }
+    {
+        Writer {
+            reserved: 0,
+            structure: 0,
+            strings: 0,
+            depth: 0,
+            nodes: 0,
+            props: false,
+            done: false,
+        }
     }
-    let reserved = w.reserved;
-    let a = pen::put64(out, 40 + 16 * reserved, address);
-    pen::put64(out, a, size);
-    let next = Writer {
-        reserved: reserved + 1,
-        structure: w.structure,
-        strings: w.strings,
-        depth: w.depth,
-        nodes: w.nodes,
-        props: w.props,
-        done: w.done,
-    };
-    Wrote {
-        writer: next,
-        answer: WriteAnswer::Done,
-    }
-}
 
-// Begins a node.
-pub fn begin_node(w: Writer, out: &mut [u8], name: &[u8]) -> Wrote
-    ensures { wrote result out.new ≡ outcome w (write (begins name.now)) out.old }
-{
-    let answer = judge_begin(w, name, out.len());
-    if answer.number() != 0 {
-        return Wrote { writer: w, answer };
+    // Whether the blob, with so many bytes more than closing calls alone would finish, is within the limit and the buffer.
+    fn room_for(self, more: usize, room: usize) -> Result<(), WriteRefusal>
+        ensures { result ≡ room_answer (final_size self + more) room }
+    {
+        let reserved = self.reserved;
+        let structure = self.structure;
+        let strings = self.strings;
+        let depth = self.depth;
+        if 1048576 < reserved {
+            return Err(WriteRefusal::OverLimit);
+        }
+        if 1048576 < structure {
+            return Err(WriteRefusal::OverLimit);
+        }
+        if 1048576 < strings {
+            return Err(WriteRefusal::OverLimit);
+        }
+        if 1048576 < depth {
+            return Err(WriteRefusal::OverLimit);
+        }
+        if 1048576 < more {
+            return Err(WriteRefusal::OverLimit);
+        }
+        let size = 40 + 16 * (reserved + 1) + structure + 4 * depth + 4 + strings + more;
+        if self.nodes == 0 {
+            return sized(size + 12, room);
+        }
+        sized(size, room)
     }
-    put_begin(out, 40 + 16 * (w.reserved + 1) + w.structure, name);
-    let next = Writer {
-        reserved: w.reserved,
-        structure: w.structure + (4 + (name.len() + 1 + 3) / 4 * 4),
-        strings: w.strings,
-        depth: w.depth + 1,
-        nodes: w.nodes + 1,
-        props: true,
-        done: w.done,
-    };
-    Wrote {
-        writer: next,
-        answer: WriteAnswer::Done,
-    }
-}
 
-// Writes a property of the innermost open node.
-pub fn property<'a>(w: Writer, out: &mut [u8], name: &'a [u8], value: &'a [u8]) -> Wrote
-    ensures { wrote result out.new ≡ outcome w (write (property name.now value.now)) out.old }
-{
-    let answer = judge_property(w, name, value, out.len());
-    if answer.number() != 0 {
-        return Wrote { writer: w, answer };
+    fn judge_reservation(self, address: u64, size: u64, room: usize) -> Result<(), WriteRefusal>
+        ensures { result ≡ answer_of self (reserve address size) room }
+    {
+        if self.done {
+            return Err(WriteRefusal::OutOfTurn);
+        }
+        if self.nodes != 0 {
+            return Err(WriteRefusal::OutOfTurn);
+        }
+        if address != 0 {
+            return self.room_for(16, room);
+        }
+        if size != 0 {
+            return self.room_for(16, room);
+        }
+        Err(WriteRefusal::OutOfTurn)
     }
-    put_property(
-        out,
-        40 + 16 * (w.reserved + 1) + w.structure,
-        w.strings,
-        value,
-    );
-    put_name(out, out.len() - w.strings - (name.len() + 1), name);
-    let next = Writer {
-        reserved: w.reserved,
-        structure: w.structure + (12 + (value.len() + 3) / 4 * 4),
-        strings: w.strings + (name.len() + 1),
-        depth: w.depth,
-        nodes: w.nodes,
-        props: w.props,
-        done: w.done,
-    };
-    Wrote {
-        writer: next,
-        answer: WriteAnswer::Done,
-    }
-}
 
-// Ends the innermost open node.
-pub fn end_node(w: Writer, out: &mut [u8]) -> Wrote
-    ensures { wrote result out.new ≡ outcome w (write ends) out.old }
-{
-    let answer = judge_end(w, out.len());
-    if answer.number() != 0 {
-        return Wrote { writer: w, answer };
+    fn judge_begin(self, name: &[u8], room: usize) -> Result<(), WriteRefusal>
+        ensures { result ≡ answer_of self (write (begins name.now)) room }
+    {
+        let depth = self.depth;
+        let nodes = self.nodes;
+        if self.done {
+            return Err(WriteRefusal::OutOfTurn);
+        }
+        if words::byte_from(name, 0, 0) < name.len() {
+            return Err(WriteRefusal::OutOfTurn);
+        }
+        if nodes == 0 {
+            if depth != 0 {
+                return Err(WriteRefusal::OutOfTurn);
+            }
+            if name.len() != 0 {
+                return Err(WriteRefusal::OutOfTurn);
+            }
+            return self.room_for(0, room);
+        }
+        if depth == 0 {
+            return Err(WriteRefusal::OutOfTurn);
+        }
+        if 32 <= depth {
+            return Err(WriteRefusal::OverLimit);
+        }
+        if 4096 <= nodes {
+            return Err(WriteRefusal::OverLimit);
+        }
+        if 1048576 < name.len() {
+            return Err(WriteRefusal::OverLimit);
+        }
+        self.room_for(8 + (name.len() + 4) / 4 * 4, room)
     }
-    pen::put32(out, 40 + 16 * (w.reserved + 1) + w.structure, 2);
-    let next = Writer {
-        reserved: w.reserved,
-        structure: w.structure + 4,
-        strings: w.strings,
-        depth: w.depth - 1,
-        nodes: w.nodes,
-        props: false,
-        done: w.done,
-    };
-    Wrote {
-        writer: next,
-        answer: WriteAnswer::Done,
-    }
-}
 
-// Finishes the blob: the ends of the reservations and of the structure, the names, zeros past them, and the header. Tells how long it is.
-pub fn finish(w: Writer, out: &mut [u8]) -> Finished
-    ensures { finished result out.new ≡ outcome w finish out.old }
-{
-    let answer = judge_finish(w, out.len());
-    if answer.number() != 0 {
-        return Finished {
-            writer: w,
-            size: 0,
-            answer,
-        };
+    fn judge_property<'a>(
+        self,
+        name: &'a [u8],
+        value: &'a [u8],
+        room: usize,
+    ) -> Result<(), WriteRefusal>
+        ensures { result ≡ answer_of self (write (property name.now value.now)) room }
+    {
+        if self.done {
+            return Err(WriteRefusal::OutOfTurn);
+        }
+        if !self.props {
+            return Err(WriteRefusal::OutOfTurn);
+        }
+        if words::byte_from(name, 0, 0) < name.len() {
+            return Err(WriteRefusal::OutOfTurn);
+        }
+        if 1048576 < name.len() {
+            return Err(WriteRefusal::OverLimit);
+        }
+        if 1048576 < value.len() {
+            return Err(WriteRefusal::OverLimit);
+        }
+        self.room_for(12 + (value.len() + 3) / 4 * 4 + (name.len() + 1), room)
     }
-    let m = 16 * (w.reserved + 1);
-    let b = w.structure + 4;
-    let end = 40 + m + w.structure + 4;
-    let past = end + w.strings;
-    pen::put_zeros(out, 40 + 16 * w.reserved, 16);
-    pen::put32(out, 40 + m + w.structure, 9);
-    pen::turn_from(out, end);
-    pen::put_zeros(out, past, out.len() - past);
-    put_header(out, m, b, w.strings);
-    let next = Writer {
-        reserved: w.reserved,
-        structure: w.structure,
-        strings: w.strings,
-        depth: w.depth,
-        nodes: w.nodes,
-        props: w.props,
-        done: true,
-    };
-    Finished {
-        writer: next,
-        size: past,
-        answer: WriteAnswer::Done,
+
+    fn judge_end(self, room: usize) -> Result<(), WriteRefusal>
+        ensures { result ≡ answer_of self (write ends) room }
+    {
+        if self.done {
+            return Err(WriteRefusal::OutOfTurn);
+        }
+        if self.nodes == 0 {
+            return Err(WriteRefusal::OutOfTurn);
+        }
+        if self.depth == 0 {
+            return Err(WriteRefusal::OutOfTurn);
+        }
+        self.room_for(0, room)
+    }
+
+    fn judge_finish(self, room: usize) -> Result<(), WriteRefusal>
+        ensures { result ≡ answer_of self finish room }
+    {
+        if self.done {
+            return Err(WriteRefusal::OutOfTurn);
+        }
+        if self.nodes == 0 {
+            return Err(WriteRefusal::OutOfTurn);
+        }
+        if self.depth != 0 {
+            return Err(WriteRefusal::OutOfTurn);
+        }
+        self.room_for(0, room)
+    }
+
+    // Writes a reservation entry.
+    pub fn reservation(
+        &mut self,
+        out: &mut [u8],
+        address: u64,
+        size: u64,
+    ) -> Result<(), WriteRefusal>
+        ensures { wrote self.new result out.new ≡ outcome self.old (reserve address size) out.old }
+    {
+        self.judge_reservation(address, size, out.len())?;
+        let a = pen::put64(out, 40 + 16 * self.reserved, address);
+        pen::put64(out, a, size);
+        self.reserved += 1;
+        Ok(())
+    }
+
+    // Begins a node.
+    pub fn begin_node(&mut self, out: &mut [u8], name: &[u8]) -> Result<(), WriteRefusal>
+        ensures { wrote self.new result out.new ≡ outcome self.old (write (begins name.now)) out.old }
+    {
+        self.judge_begin(name, out.len())?;
+        put_begin(out, 40 + 16 * (self.reserved + 1) + self.structure, name);
+        self.structure += 4 + (name.len() + 1 + 3) / 4 * 4;
+        self.depth += 1;
+        self.nodes += 1;
+        self.props = true;
+        Ok(())
+    }
+
+    // Writes a property of the innermost open node.
+    pub fn property<'a>(
+        &mut self,
+        out: &mut [u8],
+        name: &'a [u8],
+        value: &'a [u8],
+    ) -> Result<(), WriteRefusal>
+        ensures { wrote self.new result out.new ≡ outcome self.old (write (property name.now value.now)) out.old }
+    {
+        self.judge_property(name, value, out.len())?;
+        put_property(
+            out,
+            40 + 16 * (self.reserved + 1) + self.structure,
+            self.strings,
+            value,
+        );
+        put_name(out, out.len() - self.strings - (name.len() + 1), name);
+        self.structure += 12 + (value.len() + 3) / 4 * 4;
+        self.strings += name.len() + 1;
+        Ok(())
+    }
+
+    // Ends the innermost open node.
+    pub fn end_node(&mut self, out: &mut [u8]) -> Result<(), WriteRefusal>
+        ensures { wrote self.new result out.new ≡ outcome self.old (write ends) out.old }
+    {
+        self.judge_end(out.len())?;
+        pen::put32(out, 40 + 16 * (self.reserved + 1) + self.structure, 2);
+        self.structure += 4;
+        self.depth -= 1;
+        self.props = false;
+        Ok(())
+    }
+
+    // Finishes the blob: the ends of the reservations and of the structure, the names, zeros past them, and the header. Tells how long it is.
+    pub fn finish(&mut self, out: &mut [u8]) -> Result<usize, WriteRefusal>
+        ensures { finished self.new result out.new ≡ outcome self.old finish out.old }
+    {
+        self.judge_finish(out.len())?;
+        let m = 16 * (self.reserved + 1);
+        let b = self.structure + 4;
+        let end = 40 + m + self.structure + 4;
+        let past = end + self.strings;
+        pen::put_zeros(out, 40 + 16 * self.reserved, 16);
+        pen::put32(out, 40 + m + self.structure, 9);
+        pen::turn_from(out, end);
+        pen::put_zeros(out, past, out.len() - past);
+        put_header(out, m, b, self.strings);
+        self.done = true;
+        Ok(past)
     }
 }

@@ -8,6 +8,7 @@ use mathlib.Core.List.{List, [], ◌++◌, append_assoc, append-nil, reverse}
 use lib.ListN.{length, take, drop, replicate, length-append, length-drop, length-reverse, length-replicate, take-append-drop}
 use lib.Seq.{length-take-le}
 use borrow.Author.Tests.{ne_eqb}
+use Rattle.std.specs.Prelude.{Ok}
 use Rattle.words.proofs.BytesLaws.{never}
 use Rattle.cells.specs.declared.Region.{Region}
 use Rattle.grammar.proofs.TreeLaws.{run_t}
@@ -22,7 +23,6 @@ use Rattle.flattened.proofs.PartLaws.{parts_length, names_length}
 use Rattle.flattened.proofs.HeaderLaws.{entries_length, header_length, blob_length}
 use Rattle.flattened.proofs.ReadBack.{parts_tree, reads_back}
 use Rattle.writer.specs.declared.Writer.{Writer}
-use Rattle.writer.specs.declared.WriteAnswer.TheVariants.{Done}
 use Rattle.writer.specs.Writer.{finish, write_number, final_size, after, answer_of}
 use Rattle.writer.specs.Calls.{laid, turned, part_at, end_at, blocks_laid, blob_laid, Outcome, outcome}
 use Rattle.writer.proofs.Accepting.{call_passed, done_is, FinishTurn, finish_turn}
@@ -159,7 +159,7 @@ whole_tree w buf rs xs k t =
     (ap (λ (l : List Part). run_t (parts_toks 0 l) 0 0 false) (sym (append-nil xs)) ∙ k.run 32 4096 as_given [] ∙ run_fin 32 4096 w.depth w.nodes w.props t.outside t.rooted)
 
 module _ (w : Writer) (buf : List ℕ) (a : Account) where
-  finished_holding : Holds w buf a.entries a.parts → answer_of w finish (length buf) ≡ Done → Finishes buf a (outcome w finish buf)
+  finished_holding : Holds w buf a.entries a.parts → answer_of w finish (length buf) ≡ Ok tt → Finishes buf a (outcome w finish buf)
   finished_holding k d =
       let p = call_passed w finish (length buf) d in
       let t = finish_turn w p.turned in
@@ -199,7 +199,7 @@ module _ (w : Writer) (buf : List ℕ) (a : Account) where
 pub finishes : {w : Writer} {buf : List ℕ} {a : Account} → History w buf a → write_number (outcome w finish buf).answer ≡ 0 → Finishes buf a (outcome w finish buf)
 finishes {w} {buf} {a} h n = go (stands h)
   where
-    done : answer_of w finish (length buf) ≡ Done
+    done : answer_of w finish (length buf) ≡ Ok tt
     done = done_is _ (ap write_number (sym (outcome_answer w finish buf)) ∙ n)
 
     go : Stands w buf a → Finishes buf a (outcome w finish buf)

@@ -6,6 +6,7 @@ use mathlib.Core.Logic.{⊎_elim}
 use mathlib.Core.Bool.{true, false}
 use mathlib.Core.List.{List, [], ◌∷◌, ◌++◌, append_assoc, reverse}
 use lib.ListN.{length, length-append, length-reverse}
+use Rattle.std.specs.Prelude.{Ok}
 use Rattle.words.proofs.BytesLaws.{never}
 use Rattle.cells.specs.declared.Region.{Region}
 use Rattle.fdt.specs.Tree.{Tok}
@@ -16,7 +17,6 @@ use Rattle.pen.proofs.LengthLaws.{bytes8_length}
 use Rattle.flattened.specs.Parts.{Part, begins, property, ends, part_size, name_size, parts_size, names_size, part_tok, parts_toks, Clean, part_bytes, name_bytes}
 use Rattle.flattened.proofs.PartLaws.{part_length, name_length}
 use Rattle.writer.specs.declared.Writer.{Writer}
-use Rattle.writer.specs.declared.WriteAnswer.TheVariants.{Done}
 use Rattle.writer.specs.Writer.{reserve, write, final_size, in_turn, in_limits, after, answer_of}
 use Rattle.writer.specs.Calls.{laid, part_at, part_laid, reservation_laid}
 use Rattle.writer.proofs.Accepting.{call_passed, part_space, begin_limits, BeginTurn, begin_turn, PropertyTurn, property_turn, EndTurn, end_turn, reserve_turn}
@@ -186,7 +186,7 @@ module _ (w : Writer) (buf : List ℕ) (rs : List Region) (xs : List Part) (h : 
   pub open_after : (w' : Writer) (x : Part) → Next w w' x → begun (xs ++ (x ∷ [])) ≡ w'.depth + ended (xs ++ (x ∷ []))
   open_after w' x n = omega (arith, begun_append xs (x ∷ []), ended_append xs (x ∷ []), h.open_now, n.depth)
 
-  pub holds_part : (x : Part) → answer_of w (write x) (length buf) ≡ Done → Holds (after w (write x)) (part_laid w x buf) rs (xs ++ (x ∷ []))
+  pub holds_part : (x : Part) → answer_of w (write x) (length buf) ≡ Ok tt → Holds (after w (write x)) (part_laid w x buf) rs (xs ++ (x ∷ []))
   holds_part x z =
       let p = call_passed w (write x) (length buf) z in
       let n = next w x h.rooted p.turned in
@@ -211,7 +211,7 @@ module _ (w : Writer) (buf : List ℕ) (rs : List Region) (xs : List Part) (h : 
       }
 
   -- ── A reservation ──
-  pub holds_reservation : (p z : ℕ) → p < 18446744073709551616 → z < 18446744073709551616 → answer_of w (reserve p z) (length buf) ≡ Done
+  pub holds_reservation : (p z : ℕ) → p < 18446744073709551616 → z < 18446744073709551616 → answer_of w (reserve p z) (length buf) ≡ Ok tt
       → Holds (after w (reserve p z)) (reservation_laid w p z buf) (rs ++ (region p z ∷ [])) xs
   unfolding after
   holds_reservation p z hp hz d =

@@ -9,10 +9,12 @@ use mathlib.Core.List.{List, [], ◌∷◌, ◌++◌, append-nil}
 use lib.ListN.{replicate}
 use lib.Dec.{leb}
 use borrow.Author.Tests.{lt-leb}
+use Rattle.std.specs.Prelude.{Result, Ok, Err}
 use Rattle.words.proofs.BytesLaws.{never}
 use Rattle.cells.specs.declared.Region.{Region}
 use Rattle.fdt.specs.Tree.{Tok, begin, fin}
-use Rattle.fdt.specs.declared.Verdict.TheVariants.{Accepted, Broken, Over}
+use Rattle.fdt.specs.declared.TreeFault.{TreeFault}
+use Rattle.fdt.specs.declared.TreeFault.TheVariants.{OverLimit, BadStructure}
 use Rattle.grammar.proofs.TreeLaws.{run_l, run_t}
 use Rattle.grammar.proofs.TurnLaws.{Raised, as_given, Why, refused}
 use Rattle.flattened.specs.Parts.{Part, begins, property, ends, part_size, parts_size, part_tok, parts_toks}
@@ -41,7 +43,7 @@ pub closing_some : (xs : List Part) (d : ℕ) → (xs ≡ [] → ⊥) → begun 
 closing_some [] d n e = absurd (n refl)
 closing_some (x ∷ xs) d n e = let q : begun (x ∷ xs) - ended (x ∷ xs) ≡ d = omega arith in ap (λ (k : ℕ). replicate k ends) q
 
-run_closing : (lv nd d p n : ℕ) (a : Bool) → (n ≡ 0 → ⊥) → run_l lv nd (parts_toks p (replicate d ends)) d n a ≡ Accepted
+run_closing : (lv nd d p n : ℕ) (a : Bool) → (n ≡ 0 → ⊥) → run_l lv nd (parts_toks p (replicate d ends)) d n a ≡ Ok tt
 unfolding parts_toks part_tok
 run_closing lv nd zero p n a z = run_fin lv nd 0 n a refl z
 run_closing lv nd (suc d) p n a z =
@@ -71,14 +73,14 @@ module _ (w : Writer) (buf : List ℕ) (rs : List Region) (xs : List Part) (h : 
 
   -- ── Out of turn ──
   -- where the walk refuses the part, no tree has these parts first
-  no_tree : (x : Part) → ((lv nd : ℕ) → Raised lv nd → (ts : List Tok) → run_l lv nd (part_tok (parts_size xs) x ∷ ts) w.depth w.nodes w.props ≡ Broken)
+  no_tree : (x : Part) → ((lv nd : ℕ) → Raised lv nd → (ts : List Tok) → run_l lv nd (part_tok (parts_size xs) x ∷ ts) w.depth w.nodes w.props ≡ Err BadStructure)
       → (ys : List Part) → TreeOf (xs ++ (x ∷ ys)) → ⊥
   unfolding parts_toks
   no_tree x b ys t =
       let lv = 32 + suc (levels_of t.kids) in
       let nd = 4096 + suc (nodes_of t.kids) in
       let r : Raised lv nd = record { high = omega arith; more = omega arith } in
-      let e : Broken ≡ Accepted =
+      let e : ◌≡◌ {A = Result Unit TreeFault} (Err BadStructure) (Ok tt) =
       sym (h.run lv nd r (x ∷ ys) ∙ b lv nd r (parts_toks (parts_size xs + part_size x) ys))
       ∙ ap (λ (l : List Part). run_l lv nd (parts_toks 0 l) 0 0 false) t.parts ∙ tree_accepts lv nd t.props t.kids (omega arith) (omega arith) in
       let m : ◌≡◌ {A = ℕ} 0 1 = cc in
@@ -93,7 +95,7 @@ module _ (w : Writer) (buf : List ℕ) (rs : List Region) (xs : List Part) (h : 
       let lv = 32 + suc (levels_of t.kids) in
       let nd = 4096 + suc (nodes_of t.kids) in
       let r : Raised lv nd = record { high = omega arith; more = omega arith } in
-      let e : Broken ≡ Accepted =
+      let e : ◌≡◌ {A = Result Unit TreeFault} (Err BadStructure) (Ok tt) =
       sym (ap (λ (l : List Part). run_l lv nd (parts_toks 0 l) 0 0 false) (sym (append-nil xs)) ∙ h.run lv nd r [] ∙ refused fin w.depth w.nodes w.props y lv nd r [])
       ∙ ap (λ (l : List Part). run_l lv nd (parts_toks 0 l) 0 0 false) t.parts ∙ tree_accepts lv nd t.props t.kids (omega arith) (omega arith) in
       let m : ◌≡◌ {A = ℕ} 0 1 = cc in
@@ -101,28 +103,28 @@ module _ (w : Writer) (buf : List ℕ) (rs : List Region) (xs : List Part) (h : 
 
   -- ── Over a limit ──
   -- where the walk exceeds at the part, no tree within the limits has these parts first
-  pub no_tree_within : (x : Part) → ((ts : List Tok) → run_t (part_tok (parts_size xs) x ∷ ts) w.depth w.nodes w.props ≡ Over)
+  pub no_tree_within : (x : Part) → ((ts : List Tok) → run_t (part_tok (parts_size xs) x ∷ ts) w.depth w.nodes w.props ≡ Err OverLimit)
       → (ys : List Part) (ps : List NamedValue) (kids : Forest) → suc (levels_of kids) ≤ 32 → suc (nodes_of kids) ≤ 4096 → xs ++ (x ∷ ys) ≡ tree_parts ps kids → ⊥
   unfolding parts_toks
   no_tree_within x b ys ps kids l c t =
-      let e : Over ≡ Accepted =
+      let e : ◌≡◌ {A = Result Unit TreeFault} (Err OverLimit) (Ok tt) =
       sym (h.run 32 4096 as_given (x ∷ ys) ∙ b (parts_toks (parts_size xs + part_size x) ys))
       ∙ ap (λ (l : List Part). run_l 32 4096 (parts_toks 0 l) 0 0 false) t ∙ tree_accepts 32 4096 ps kids l c in
       let m : ◌≡◌ {A = ℕ} 0 1 = cc in
       never m
 
 -- ── The walk where a part is over a limit ──
-over : (p : ℕ) (name : List ℕ) (ts : List Tok) (d n : ℕ) (a : Bool) → (d ≡ 0 → ⊥) → (not (leb 32 d) && not (leb 4096 n)) ≡ false → run_t (begin p name ∷ ts) d n a ≡ Over
+over : (p : ℕ) (name : List ℕ) (ts : List Tok) (d n : ℕ) (a : Bool) → (d ≡ 0 → ⊥) → (not (leb 32 d) && not (leb 4096 n)) ≡ false → run_t (begin p name ∷ ts) d n a ≡ Err OverLimit
 unfolding run_l
 over p name ts zero n a z e = absurd (z refl)
 over p name ts (suc d) n a z e = go (leb 32 (suc d)) (leb 4096 n) e
   where
-    go : (u v : Bool) → (not u && not v) ≡ false → cond u Over (cond v Over (run_t ts (suc (suc d)) (suc n) true)) ≡ Over
+    go : (u v : Bool) → (not u && not v) ≡ false → cond u (Err OverLimit) (cond v (Err OverLimit) (run_t ts (suc (suc d)) (suc n) true)) ≡ Err OverLimit
     go true v h = refl
     go false true h = refl
     go false false h = never (cc)
 
-pub exceeds : (w : Writer) (x : Part) → in_turn w (write x) ≡ true → in_limits w (write x) ≡ false → (p : ℕ) (ts : List Tok) → run_t (part_tok p x ∷ ts) w.depth w.nodes w.props ≡ Over
+pub exceeds : (w : Writer) (x : Part) → in_turn w (write x) ≡ true → in_limits w (write x) ≡ false → (p : ℕ) (ts : List Tok) → run_t (part_tok p x ∷ ts) w.depth w.nodes w.props ≡ Err OverLimit
 unfolding in_limits part_tok
 exceeds w (begins name) t l p ts =
     ⊎_elim (λ k. never (small w.depth w.nodes k.1 k.0 l)) (λ k. over p name ts w.depth w.nodes w.props k.1 l) (begin_turn w name t).which

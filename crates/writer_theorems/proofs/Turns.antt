@@ -7,8 +7,8 @@ use mathlib.Core.Bool.{Bool, true, false}
 use mathlib.Core.List.{List, [], ◌∷◌}
 use lib.ListN.{length}
 use borrow.Author.Tests.{lt-leb, ne_eqb, eq-eqb}
+use Rattle.std.specs.Prelude.{Ok}
 use Rattle.fdt.specs.Tree.{Property, Tok, begin, ended, prop, fin}
-use Rattle.fdt.specs.declared.Verdict.TheVariants.{Accepted}
 use Rattle.grammar.proofs.TreeLaws.{run_l}
 
 module _ (lv nd : ℕ) where
@@ -32,6 +32,6 @@ module _ (lv nd : ℕ) where
   run_end ts zero n a z = absurd (z refl)
   run_end ts (suc d) n a z = let q : d ≡ suc d - 1 = omega arith in ap (λ (k : ℕ). run_l lv nd ts k n false) q
 
-  pub run_fin : (d n : ℕ) (a : Bool) → d ≡ 0 → (n ≡ 0 → ⊥) → run_l lv nd (fin ∷ []) d n a ≡ Accepted
+  pub run_fin : (d n : ℕ) (a : Bool) → d ≡ 0 → (n ≡ 0 → ⊥) → run_l lv nd (fin ∷ []) d n a ≡ Ok tt
   unfolding run_l
   run_fin d n a e z = rw (e, ne_eqb _ _ z)
