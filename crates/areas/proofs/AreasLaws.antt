@@ -8,7 +8,8 @@ use native.Mathlib.Nat.{le_refl}
 use Rattle.entry.specs.declared.MemoryEntry.{MemoryEntry}
 use Rattle.entry.specs.Entry.{overlap, meet}
 use Rattle.entry.proofs.EntryLaws.{Meets, some, none, meets}
-use Rattle.areas.specs.Interval.{Interval, Inside, Listed, Ascending}
+use Rattle.areas.specs.declared.Interval.{Interval}
+use Rattle.areas.specs.Interval.{Inside, Listed, Ascending}
 use Rattle.areas.specs.Carve.{carve}
 use Rattle.areas.specs.Areas.{span, free_of, busy_of, carved_by, pieces, areas_in}
 use Rattle.areas.specs.Steps.{Solid}

@@ -8,7 +8,8 @@ use native.Mathlib.Omega.{arith}
 use native.Mathlib.Nat.{le_refl}
 use lib.ListN.{length}
 use borrow.Author.Tests.{le-ltb, lt-ltb, le-leb, lt-leb}
-use Rattle.areas.specs.Interval.{Interval, Inside, Listed}
+use Rattle.areas.specs.declared.Interval.{Interval}
+use Rattle.areas.specs.Interval.{interval, Inside, Listed}
 use Rattle.areas.specs.declared.Cut.{Cut}
 use Rattle.areas.specs.declared.Cut.TheVariants.{Gone, Rest, Split}
 use Rattle.areas.specs.Carve.{cut_by, after, walk, carve_by, carve, after_nests, walk_nests, Nests}
@@ -19,34 +20,34 @@ use Rattle.areas.proofs.Starting.{starting, starting_most, starting_less}
 -- which cut a nonempty r makes of a nonempty [s, e)
 pub data CutOf (r : Interval) (s e : ℕ) : Cut → Type 0 where
   is_gone : r.lo ≤ s → e ≤ r.hi → CutOf r s e Gone
-  is_before : e ≤ r.lo → CutOf r s e (Rest s e)
-  is_after : r.hi ≤ s → CutOf r s e (Rest s e)
-  is_left : s < r.lo → r.lo < e → e ≤ r.hi → CutOf r s e (Rest s r.lo)
-  is_right : r.lo ≤ s → s < r.hi → r.hi < e → CutOf r s e (Rest r.hi e)
-  is_split : s < r.lo → r.hi < e → CutOf r s e (Split s r.lo r.hi e)
+  is_before : e ≤ r.lo → CutOf r s e (Rest (interval s e))
+  is_after : r.hi ≤ s → CutOf r s e (Rest (interval s e))
+  is_left : s < r.lo → r.lo < e → e ≤ r.hi → CutOf r s e (Rest (interval s r.lo))
+  is_right : r.lo ≤ s → s < r.hi → r.hi < e → CutOf r s e (Rest (interval r.hi e))
+  is_split : s < r.lo → r.hi < e → CutOf r s e (Split (interval s r.lo) (interval r.hi e))
 
 module _ (r : Interval) (s e : ℕ) (solid : r.lo < r.hi) (some : s < e) where
   pub gone= : r.lo ≤ s → e ≤ r.hi → cut_by r s e ≡ Gone
   unfolding cut_by
   gone= p q = simp (lt-ltb r.lo e (omega arith), le-leb e r.hi q, le-leb r.lo s p)
 
-  pub before= : e ≤ r.lo → cut_by r s e ≡ Rest s e
+  pub before= : e ≤ r.lo → cut_by r s e ≡ Rest (interval s e)
   unfolding cut_by
   before= p = simp (le-ltb r.lo e p, lt-leb e s some, lt-leb r.lo s (omega arith), le-leb s r.lo (omega arith))
 
-  pub after= : r.hi ≤ s → cut_by r s e ≡ Rest s e
+  pub after= : r.hi ≤ s → cut_by r s e ≡ Rest (interval s e)
   unfolding cut_by
   after= p = simp (lt-ltb r.lo e (omega arith), lt-leb e r.hi (omega arith), lt-leb e s some, le-leb r.lo s (omega arith), le-ltb s r.hi p, lt-leb s r.lo (omega arith))
 
-  pub left= : s < r.lo → r.lo < e → e ≤ r.hi → cut_by r s e ≡ Rest s r.lo
+  pub left= : s < r.lo → r.lo < e → e ≤ r.hi → cut_by r s e ≡ Rest (interval s r.lo)
   unfolding cut_by
   left= p q t = simp (lt-ltb r.lo e q, le-leb e r.hi t, lt-leb r.lo s p, le-leb s r.lo (omega arith), le-ltb r.lo r.lo (omega arith))
 
-  pub right= : r.lo ≤ s → s < r.hi → r.hi < e → cut_by r s e ≡ Rest r.hi e
+  pub right= : r.lo ≤ s → s < r.hi → r.hi < e → cut_by r s e ≡ Rest (interval r.hi e)
   unfolding cut_by
   right= p q t = simp (lt-ltb r.lo e (omega arith), lt-leb e r.hi t, lt-leb e s some, le-leb r.lo s p, lt-ltb s r.hi q, lt-leb r.hi r.lo solid)
 
-  pub split= : s < r.lo → r.hi < e → cut_by r s e ≡ Split s r.lo r.hi e
+  pub split= : s < r.lo → r.hi < e → cut_by r s e ≡ Split (interval s r.lo) (interval r.hi e)
   unfolding cut_by
   split= p q = simp (lt-ltb r.lo e (omega arith), lt-leb e r.hi q, lt-leb e s some, lt-leb r.lo s p, le-leb s r.lo (omega arith))
 

@@ -14,7 +14,8 @@ use borrow.Author.Tests.{le-leb, lt-leb, leb-true, leb-false}
 use Rattle.entry.specs.declared.MemoryEntry.{MemoryEntry}
 use Rattle.entry.specs.Entry.{overlap}
 use Rattle.listing.specs.Listing.{those, wants}
-use Rattle.areas.specs.Interval.{Interval, Above}
+use Rattle.areas.specs.declared.Interval.{Interval}
+use Rattle.areas.specs.Interval.{Above}
 use Rattle.areas.specs.Areas.{span, free_of, busy_of, pieces, sort, areas_in}
 use Rattle.areas.specs.Steps.{Solid}
 use Rattle.areas.proofs.Lists.{Every, every_weaker}

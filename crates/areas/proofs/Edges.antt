@@ -6,7 +6,7 @@ use Prim.Native.Nat.{ℕ, zero, suc, ◌-◌, ◌<◌}
 use Rattle.entry.specs.declared.MemoryEntry.{MemoryEntry}
 use Rattle.entry.specs.Entry.{overlap, meet}
 use Rattle.entry.proofs.EntryLaws.{Meets, some, none, meets}
-use Rattle.areas.specs.Interval.{Interval}
+use Rattle.areas.specs.declared.Interval.{Interval}
 use Rattle.areas.specs.declared.Cut.{Cut}
 use Rattle.areas.specs.Carve.{cut_by, after, walk, carve_by, carve}
 use Rattle.areas.specs.Areas.{free_of, busy_of, carved_by, pieces, areas_in}

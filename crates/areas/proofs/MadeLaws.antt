@@ -21,7 +21,8 @@ use Rattle.memory.specs.declared.MemoryMap.{MemoryMap}
 use Rattle.memory.specs.Map.{slots_of, at}
 use Rattle.memory.specs.Made.{Made}
 use Rattle.listing.specs.Listing.{held, wants, those}
-use Rattle.areas.specs.Interval.{Interval, Listed, Ascending}
+use Rattle.areas.specs.declared.Interval.{Interval}
+use Rattle.areas.specs.Interval.{Listed, Ascending}
 use Rattle.areas.specs.Shape.{WholePages, Shape}
 use Rattle.areas.specs.Areas.{limit_of, span, free_of, busy_of, areas_in, areas_of}
 use Rattle.areas.specs.Steps.{All, Solid, Long}

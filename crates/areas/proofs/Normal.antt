@@ -5,7 +5,8 @@ use mathlib.Core.Logic.{inl, inr, ⊎_elim, ◌↔◌}
 use Prim.Native.Nat.{ℕ, suc, ◌≤◌, ◌<◌}
 use native.Mathlib.Omega.{arith}
 use native.Mathlib.Nat.{le_refl}
-use Rattle.areas.specs.Interval.{Interval, Listed, Above, Ascending}
+use Rattle.areas.specs.declared.Interval.{Interval}
+use Rattle.areas.specs.Interval.{Listed, Above, Ascending}
 use Rattle.areas.proofs.Lists.{le_or_lt}
 
 -- what lies in a list that ascends from a on is a or above

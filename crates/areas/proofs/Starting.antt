@@ -10,7 +10,7 @@ use native.Mathlib.Nat.{le_refl}
 use lib.Dec.{ltb}
 use lib.ListN.{length}
 use borrow.Author.Tests.{le-ltb, lt-ltb}
-use Rattle.areas.specs.Interval.{Interval}
+use Rattle.areas.specs.declared.Interval.{Interval}
 use Rattle.areas.proofs.Lists.{le_or_lt}
 
 -- 1 where x lies strictly between s and e

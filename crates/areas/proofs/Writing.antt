@@ -6,7 +6,8 @@ use native.Mathlib.Omega.{arith}
 use native.Mathlib.Nat.{zero-add, suc-add, add-zero}
 use lib.ListN.{length, get_or, set, drop, length-set, length-append}
 use lib.Seq.{get_or-append-add}
-use Rattle.areas.specs.Interval.{Interval, interval}
+use Rattle.areas.specs.declared.Interval.{Interval}
+use Rattle.areas.specs.Interval.{interval}
 use Rattle.areas.specs.Table.{flat}
 use Rattle.areas.specs.Steps.{puts}
 

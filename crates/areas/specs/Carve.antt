@@ -1,7 +1,8 @@
 -- An area carved by reservations, as `add_memory` does it: document 01, "Areas".
 -- CarveLaws.carve_right says what it comes to: an address is left exactly when it lies in the area and in no reservation.
 use Rattle.std.specs.Prelude.{List, [], ◌∷◌, ◌++◌, cond, ℕ, zero, suc, ◌-◌, ltb, leb}
-use Rattle.areas.specs.Interval.{Interval, interval}
+use Rattle.areas.specs.declared.Interval.{Interval}
+use Rattle.areas.specs.Interval.{interval}
 use Rattle.areas.specs.declared.Cut.{Cut}
 use Rattle.areas.specs.declared.Cut.TheVariants.{Gone, Rest, Split}
 
@@ -16,7 +17,9 @@ trim_start r s = cond (leb r.lo s) (cond (ltb s r.hi) r.hi s) s
 -- what the reservation leaves of [s, e), by the Rust's tests in their order: the end is trimmed, then the start,
 -- and what then still holds the reservation is split
 abbrev pub cut_start : Interval → ℕ → ℕ → Cut
-cut_start r s e = cond (leb e s) Gone (cond (leb s r.lo) (cond (ltb r.lo e) (Split s r.lo r.hi e) (Rest s e)) (Rest s e))
+cut_start r s e =
+    cond (leb e s) Gone
+    (cond (leb s r.lo) (cond (ltb r.lo e) (Split (interval s r.lo) (interval r.hi e)) (Rest (interval s e))) (Rest (interval s e)))
 
 abbrev pub cut_end : Interval → ℕ → ℕ → Cut
 cut_end r s e = cond (leb e s) Gone (cut_start r (trim_start r s) e)
@@ -27,8 +30,8 @@ cut_by r s e = cut_end r s (trim_end r e)
 -- what is left is carved on; of a split, the piece on the left comes first
 abbrev pub after : (ℕ → ℕ → List Interval) → (ℕ → ℕ → List Interval) → Cut → List Interval
 after left go Gone = []
-after left go (Rest a b) = go a b
-after left go (Split a b c d) = left a b ++ go c d
+after left go (Rest a) = go a.lo a.hi
+after left go (Split a b) = left a.lo a.hi ++ go b.lo b.hi
 
 -- [s, e) against the reservations that are still to come, where `left` carves a piece on the left
 unfoldable pub walk : (ℕ → ℕ → List Interval) → List Interval → ℕ → ℕ → List Interval
@@ -50,8 +53,8 @@ carve all s e = carve_by (e - s) all s e
 -- what is left is carved on; a piece on the left is one call deeper
 abbrev pub after_nests : (ℕ → ℕ → Type 0) → (ℕ → ℕ → Type 0) → Cut → Type 0
 after_nests left go Gone = Unit {0}
-after_nests left go (Rest a b) = go a b
-after_nests left go (Split a b c d) = left a b × go c d
+after_nests left go (Rest a) = go a.lo a.hi
+after_nests left go (Split a b) = left a.lo a.hi × go b.lo b.hi
 
 unfoldable pub walk_nests : (ℕ → ℕ → Type 0) → List Interval → ℕ → ℕ → Type 0
 walk_nests left [] s e = Unit {0}

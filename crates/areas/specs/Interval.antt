@@ -1,11 +1,8 @@
 -- Plain intervals of addresses, and lists of them. Nothing here knows of a map.
 use Rattle.std.specs.Prelude.{ℕ, suc, ◌≤◌, ◌<◌, List, [], ◌∷◌, ◌⊎◌}
+use Rattle.areas.specs.declared.Interval.{Interval}
 
 -- the addresses from lo up to, not including, hi
-pub record Interval : Type 0 where
-  pub lo : ℕ
-  pub hi : ℕ
-
 abbrev pub interval : ℕ → ℕ → Interval
 interval lo hi = record { lo = lo; hi = hi }
 

@@ -2,7 +2,8 @@
 use mathlib.Core.List.{List, Memᴰ}
 use Rattle.std.specs.Prelude.{ℕ, ◌≤◌}
 use Rattle.page.specs.Round.{top, Aligned}
-use Rattle.areas.specs.Interval.{Interval, Ascending}
+use Rattle.areas.specs.declared.Interval.{Interval}
+use Rattle.areas.specs.Interval.{Ascending}
 
 -- whole pages, that end at T at most
 pub record WholePages (p : ℕ) (r : Interval) : Type 0 where

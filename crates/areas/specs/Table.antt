@@ -4,7 +4,7 @@ use Rattle.areas.specs.declared.AreasRefusal.TheVariants.{TooManyAreas}
 use Rattle.areas.specs.declared.AreasRefusal.{AreasRefusal}
 use Rattle.std.specs.Prelude.{◌≡◌, List, [], ◌∷◌, ◌++◌, Bool, cond, ℕ, ◌+◌, ◌-◌, ◌/◌, leb, length, drop, Option, Result, Ok, Err}
 use Rattle.memory.specs.declared.MemoryMap.{MemoryMap}
-use Rattle.areas.specs.Interval.{Interval}
+use Rattle.areas.specs.declared.Interval.{Interval}
 use Rattle.areas.specs.Areas.{areas_of}
 
 abbrev pub refusal_number : AreasRefusal → ℕ

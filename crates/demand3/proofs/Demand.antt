@@ -22,7 +22,8 @@ use Rattle.memory.proofs.RunLaws.{all_made}
 use Rattle.listing.specs.Listing.{held}
 use Rattle.runs.specs.Sets.{Registers, Some}
 use Rattle.runs.proofs.Sets.{plain_sets}
-use Rattle.areas.specs.Interval.{Interval, Listed}
+use Rattle.areas.specs.declared.Interval.{Interval}
+use Rattle.areas.specs.Interval.{Listed}
 use Rattle.areas.specs.Shape.{Shape}
 use Rattle.areas.specs.Areas.{or_else, limit_of, areas_in, areas_of}
 use Rattle.areas.specs.Table.{Form, answer_for, lent_after, BuildsIn, numbers, Builds}

@@ -14,7 +14,7 @@ use borrow.Author.Tests.{le-leb, lt-leb, leb-true, leb-false}
 use Rattle.numbers.specs.Number.{Names}
 use Rattle.numbers.proofs.Given.{given}
 use Rattle.memory.specs.declared.MemoryMap.{MemoryMap}
-use Rattle.areas.specs.Interval.{Interval}
+use Rattle.areas.specs.declared.Interval.{Interval}
 use Rattle.areas.specs.Areas.{areas_of}
 use Rattle.areas.specs.Table.{built_number, Form, answer_for, BuildsIn, numbers, answer_of, table_of, Builds}
 use Rattle.lent_areas.specs.declared.MemoryArea.{MemoryArea}

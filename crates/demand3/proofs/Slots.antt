@@ -9,7 +9,8 @@ use native.Mathlib.Omega.{arith}
 use lib.ListN.{length, get_or, length-map, get_or-append, get_or-map}
 use Rattle.page.specs.Round.{Page}
 use Rattle.entry.specs.declared.Claim.{Claim}
-use Rattle.areas.specs.Interval.{Interval, interval, Inside, Listed, Above}
+use Rattle.areas.specs.declared.Interval.{Interval}
+use Rattle.areas.specs.Interval.{interval, Inside, Listed, Above}
 use Rattle.areas.specs.Shape.{Shape}
 use Rattle.areas.specs.Table.{Form, BuildsIn, flat, numbers, Builds}
 use Rattle.areas.proofs.Writing.{flat_length}

@@ -1,7 +1,7 @@
 -- Refusal 3, on its number, and what is written: stated once for every form of slots.
 use Rattle.areas.specs.declared.AreasRefusal.{AreasRefusal}
 use Rattle.std.specs.Prelude.{◌≡◌, List, ◌++◌, ◌↔◌, ℕ, ◌≤◌, ◌<◌, length, drop, Result, Ok}
-use Rattle.areas.specs.Interval.{Interval}
+use Rattle.areas.specs.declared.Interval.{Interval}
 use Rattle.areas.specs.Table.{built_number, Form}
 
 -- what a build of these areas into lent items l answers, where they are l' afterwards

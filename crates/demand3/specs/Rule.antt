@@ -11,7 +11,7 @@ use Rattle.memory.specs.declared.MemoryMap.{MemoryMap}
 use Rattle.memory.specs.Map.{blank}
 use Rattle.memory.specs.Run.{registered_all}
 use Rattle.runs.specs.Sets.{Some}
-use Rattle.areas.specs.Interval.{Interval}
+use Rattle.areas.specs.declared.Interval.{Interval}
 use Rattle.areas.specs.Areas.{or_else, limit_of, areas_of}
 
 -- "If no call is refused": the run from the empty map, one registration after the other, is done

@@ -15,7 +15,8 @@ use Rattle.entry.specs.Claim.{claim, inward, outward, rounded}
 use Rattle.memory.specs.Map.{at, put, blank, absorb, look, pass, begin, ended, placed, inserted, nothing, registered}
 use Rattle.memory.specs.Run.{registered_all}
 use Rattle.listing.specs.Listing.{entries_from, held, those}
-use Rattle.areas.specs.Interval.{Interval, interval}
+use Rattle.areas.specs.declared.Interval.{Interval}
+use Rattle.areas.specs.Interval.{interval}
 use Rattle.areas.specs.Carve.{cut_by, walk, carve_by, carve}
 use Rattle.areas.specs.Areas.{limit_of, pieces, insert, sort, areas_in, areas_of}
 use Rattle.cells.specs.declared.Region.{Region}

@@ -14,11 +14,11 @@ use Rattle.entry.specs.declared.MemoryEntry.{MemoryEntry}
 use Rattle.entry.specs.declared.Claim.{Claim}
 use Rattle.entry.specs.Claim.{rounded}
 use Rattle.memory.specs.declared.MemoryMap.{MemoryMap}
-use Rattle.memory.specs.declared.MapRefusal.TheVariants as refusal
 use Rattle.memory.specs.declared.Registered.{Registered}
 use Rattle.memory.specs.Map.{answered, nothing, inserted, registered, pass, begin}
 use Rattle.memory.specs.Run.{is_done}
 use Rattle.memory.proofs.MapLaws.{placed_ways, Way, no_kind, no_page, new_page, registered_way}
+use Rattle.areas.specs.declared.Interval.{Interval}
 use Rattle.areas.specs.Areas.{span}
 use Rattle.areas.specs.Table.{slots_in, fits}
 use Rattle.lent_table.specs.Table.{table_in, GoodTable, table_with}
@@ -72,34 +72,34 @@ module _ (p : ℕ) (m : MemoryMap) (c : Claim) (n : ℕ) (l : List ℕ) (done : 
   pub enter_sizeless : c.size ≡ 0 → unchanged m n l (Ok tt) ≡ enter_of p m c n l
   enter_sizeless h = enter_nothing (unfold nothing in rw (ne_eqb c.kind 0 (λ z. omega (arith, check.late)), eq-eqb c.size 0 h))
 
-  module _ (sized : c.size ≡ 0 → ⊥) {pages : MemoryEntry} (is : pages ≡ rounded p c) where
-    nothing_is : nothing p c ≡ leb pages.end pages.start
+  module _ (sized : c.size ≡ 0 → ⊥) {pages : Interval} (is : pages ≡ span (rounded p c)) where
+    nothing_is : nothing p c ≡ leb pages.hi pages.lo
     unfolding nothing
-    nothing_is = rw (ne_eqb c.kind 0 (λ z. omega (arith, check.late)), ne_eqb c.size 0 sized, ← is)
+    nothing_is = rw (ne_eqb c.kind 0 (λ z. omega (arith, check.late)), ne_eqb c.size 0 sized, is)
 
-    pub enter_pageless : pages.end ≤ pages.start → unchanged m n l (Ok tt) ≡ enter_of p m c n l
-    enter_pageless h = enter_nothing (nothing_is ∙ le-leb pages.end pages.start h)
+    pub enter_pageless : pages.hi ≤ pages.lo → unchanged m n l (Ok tt) ≡ enter_of p m c n l
+    enter_pageless h = enter_nothing (nothing_is ∙ le-leb pages.hi pages.lo h)
 
-    module _ (some : pages.start < pages.end) where
-      left_is : areas_left p c n l ≡ less (span pages) (table_in n l)
+    module _ (some : pages.lo < pages.hi) where
+      left_is : areas_left p c n l ≡ less pages (table_in n l)
       unfolding less_claim
-      left_is = let t : nothing p c ≡ false = nothing_is ∙ lt-leb pages.end pages.start some in rw (t, ← is)
+      left_is = let t : nothing p c ≡ false = nothing_is ∙ lt-leb pages.hi pages.lo some in rw (t, ← is)
 
       -- the answer, where the registration and the room are told
-      entering_is : (done room : Bool) → is_done (registered p m c).answer ≡ done → fits (less (span pages) (table_in n l)) l ≡ room
+      entering_is : (done room : Bool) → is_done (registered p m c).answer ≡ done → fits (less pages (table_in n l)) l ≡ room
           → entering p m c n l ≡ cond done (cond room (Ok tt) (Err TooManyAreas)) (Err MapFull)
       unfolding entering
       entering_is done room e f = rw (e, left_is, f)
 
       -- the table was judged, so what the calls on it say is of its areas less the claim
-      crowds_is : crowds (span pages) n l ≡ not (fits (less (span pages) (table_in n l)) l)
-      crowds_is = good_crowds p n l (span pages) check.good some
+      crowds_is : crowds pages n l ≡ not (fits (less pages (table_in n l)) l)
+      crowds_is = good_crowds p n l pages check.good some
 
-      pub enter_crowded : crowds (span pages) n l ≡ true → {r : Registered} → r ≡ registered p m c
+      pub enter_crowded : crowds pages n l ≡ true → {r : Registered} → r ≡ registered p m c
           → {a : LateRefusal} → a ≡ cond (is_done r.answer) TooManyAreas MapFull → unchanged m n l (Err a) ≡ enter_of p m c n l
       enter_crowded full {r} q {a} z = go (is_done (registered p m c).answer) refl (z ∙ ap (λ (x : Registered). cond (is_done x.answer) TooManyAreas MapFull) q)
         where
-          none : fits (less (span pages) (table_in n l)) l ≡ false
+          none : fits (less pages (table_in n l)) l ≡ false
           none = not-true _ (sym crowds_is ∙ full)
 
           go : (t : Bool) → is_done (registered p m c).answer ≡ t → a ≡ cond (is_done (registered p m c).answer) TooManyAreas MapFull
@@ -111,8 +111,8 @@ module _ (p : ℕ) (m : MemoryMap) (c : Claim) (n : ℕ) (l : List ℕ) (done : 
               let w : a ≡ MapFull = v ∙ rw u in
               rw w (sym (enter_at_lem p m c n l (Err MapFull) (entering_is false false u none)))
 
-      module _ (room : crowds (span pages) n l ≡ false) {r : Registered} (q : r ≡ registered p m c) where
-        enough : fits (less (span pages) (table_in n l)) l ≡ true
+      module _ (room : crowds pages n l ≡ false) {r : Registered} (q : r ≡ registered p m c) where
+        enough : fits (less pages (table_in n l)) l ≡ true
         enough = not-false _ (sym crowds_is ∙ room)
 
         pub enter_full : is_done r.answer ≡ false → unchanged r.map n l (Err MapFull) ≡ enter_of p m c n l
@@ -121,10 +121,10 @@ module _ (p : ℕ) (m : MemoryMap) (c : Claim) (n : ℕ) (l : List ℕ) (done : 
             let k : r.map ≡ m = ap (λ (x : Registered). x.map) q ∙ refused_map p m c v in
             rw k (sym (enter_at_lem p m c n l (Err MapFull) (entering_is false true v enough)))
 
-        pub enter_done : r.answer ≡ Ok tt → {l' : List ℕ} {n' : ℕ} → lent n' l' ≡ edited (span pages) n l
+        pub enter_done : r.answer ≡ Ok tt → {l' : List ℕ} {n' : ℕ} → lent n' l' ≡ edited pages n l
             → ◌≡◌ {A = After} (record { map = r.map; count = n'; table = l'; answer = (Ok tt) }) (enter_of p m c n l)
         enter_done u {l'} {n'} d =
             let v : is_done (registered p m c).answer ≡ true = rw q at (ap is_done u) in
-            let e = d ∙ good_edited p n l (span pages) check.good some enough in
+            let e = d ∙ good_edited p n l pages check.good some enough in
             entered_is p m c n l r.map n' l' (ap (λ (x : Registered). x.map) q) (rw left_is (ap (λ (x : Lent). x.count) e)) (rw left_is (ap (λ (x : Lent). x.numbers) e))
             ∙ sym (enter_at_lem p m c n l (Ok tt) (entering_is true true v enough))

@@ -1,5 +1,4 @@
 -- What a late claim leaves: a refusal nothing else than was there, and any answer a map that every call takes. Assumes nothing.
-use Rattle.late_claim.specs.declared.LateRefusal.TheVariants.{UnknownKind, NotLate, BadTable, MapFull, TooManyAreas}
 use Rattle.late_claim.specs.declared.LateRefusal.{LateRefusal}
 use Rattle.std.specs.Prelude.{Result, Ok, Err}
 use mathlib.Core.Path.{◌≡◌, refl}

@@ -12,7 +12,7 @@ use Rattle.memory.specs.declared.MemoryMap.{MemoryMap}
 use Rattle.memory.specs.Map.{nothing, registered}
 use Rattle.memory.specs.Made.{Made}
 use Rattle.memory.specs.Run.{is_done}
-use Rattle.areas.specs.Interval.{Interval}
+use Rattle.areas.specs.declared.Interval.{Interval}
 use Rattle.areas.specs.Areas.{span}
 use Rattle.areas.specs.Table.{fits}
 use Rattle.lent_table.specs.Table.{table_in, good_table, table_with}

@@ -77,18 +77,18 @@ fn enter_in(
     if claim.size == 0 {
         return Ok(count);
     }
-    let pages = entry::round(claim);
-    if pages.end <= pages.start {
+    let pages = areas::span(entry::round(claim));
+    if pages.hi <= pages.lo {
         return Ok(count);
     }
-    if lent_table::crowded(slots, count, pages.start, pages.end) {
+    if lent_table::crowded(slots, count, pages) {
         let mut trial = *map;
         return Err(refused(trial.register_in(claim)));
     }
     let Ok(()) = map.register_in(claim) else {
         return Err(LateRefusal::MapFull);
     };
-    Ok(lent_table::edit(slots, count, pages.start, pages.end))
+    Ok(lent_table::edit(slots, count, pages))
 }
 
 // A late claim on a map that is lent, and on a table of which `count` slots are used: how many are then, or the refusal.

@@ -14,7 +14,8 @@ use lib.Seq.{length-take-le, take-suc, take_all, drop-cons, append_snoc, set_at,
 use borrow.Author.Tests.{le-leb, lt-leb}
 use Rattle.memory.specs.declared.MemoryMap.{MemoryMap}
 use Rattle.memory.specs.Made.{Made}
-use Rattle.areas.specs.Interval.{Interval, interval}
+use Rattle.areas.specs.declared.Interval.{Interval}
+use Rattle.areas.specs.Interval.{interval}
 use Rattle.areas.specs.Areas.{areas_of}
 use Rattle.areas.specs.Table.{flat, answer_of, table_of}
 use Rattle.areas.proofs.MadeLaws.{areas_of_few}

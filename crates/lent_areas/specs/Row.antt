@@ -3,7 +3,7 @@
 use Rattle.areas.specs.declared.AreasRefusal.{AreasRefusal}
 use Rattle.std.specs.Prelude.{◌≡◌, ℕ, ◌+◌, ◌-◌, List, map, length, get_or, Option, Result}
 use Rattle.memory.specs.declared.MemoryMap.{MemoryMap}
-use Rattle.areas.specs.Interval.{Interval}
+use Rattle.areas.specs.declared.Interval.{Interval}
 use Rattle.areas.specs.Areas.{areas_of}
 use Rattle.areas.specs.Table.{Form, answer_for, lent_after}
 use Rattle.lent_areas.specs.declared.MemoryArea.{MemoryArea}

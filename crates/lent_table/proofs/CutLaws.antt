@@ -10,7 +10,8 @@ use native.Mathlib.Nat.{le_refl}
 use lib.Dec.{leb}
 use lib.ListN.{length, take, drop, length-append, take-append-drop}
 use borrow.Author.Tests.{le-leb, lt-leb, leb-true, leb-false}
-use Rattle.areas.specs.Interval.{Interval, interval, Above, Ascending}
+use Rattle.areas.specs.declared.Interval.{Interval}
+use Rattle.areas.specs.Interval.{interval, Above, Ascending}
 use Rattle.areas.proofs.Lists.{le_or_lt}
 use Rattle.lent_table.specs.Less.{less}
 use Rattle.lent_table.specs.Edit.{lead, above, cut_here, cut_from}

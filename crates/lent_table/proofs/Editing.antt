@@ -9,7 +9,8 @@ use lib.Dec.{leb}
 use lib.ListN.{length, get_or, set, drop, replicate, length-append}
 use lib.Seq.{drop-cons}
 use borrow.Author.Tests.{le-leb, lt-leb, leb-true, leb-false}
-use Rattle.areas.specs.Interval.{Interval, interval}
+use Rattle.areas.specs.declared.Interval.{Interval}
+use Rattle.areas.specs.Interval.{interval}
 use Rattle.areas.specs.Table.{flat, slots_in, fits}
 use Rattle.areas.proofs.Lists.{le_or_lt}
 use Rattle.areas.proofs.Writing.{flat_snoc}
@@ -157,10 +158,10 @@ module _ {c : Interval} {l : List ℕ} {n i : ℕ} (takes : Takes c n l) (past :
         pub edits_full : length l / 2 ≤ n → lent n l ≡ edited c n l
         edits_full full = let f = first takes past lt in edited_full takes (two f) (cut_two f) (omega (arith, two_length f))
 
-        pub edits_splits : n < length l / 2 → Splits l i n c.lo c.hi
+        pub edits_splits : n < length l / 2 → Splits l i n c
         edits_splits room = record { at = lt; room = omega arith; first = omega arith; order = omega (arith, takes.some); last = omega arith }
 
-        pub edits_two : n < length l / 2 → (l' : List ℕ) → Parted l i n c.lo c.hi l' → lent (n + 1) l' ≡ edited c n l
+        pub edits_two : n < length l / 2 → (l' : List ℕ) → Parted l i n c l' → lent (n + 1) l' ≡ edited c n l
         unfolding Parted table_with two
         edits_two room l' parted =
             let f = first takes past lt in

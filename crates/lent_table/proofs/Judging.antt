@@ -9,7 +9,7 @@ use lib.Dec.{leb, eqb}
 use lib.ListN.{length}
 use borrow.Author.Tests.{le-leb, lt-leb, leb-true, leb-false, eqb-true, eqb-false}
 use Rattle.page.specs.Round.{top, Aligned}
-use Rattle.areas.specs.Interval.{Interval}
+use Rattle.areas.specs.declared.Interval.{Interval}
 use Rattle.lent_table.specs.Table.{table_in, good_area, good_from, good_table}
 use Rattle.lent_table.specs.Edit.{lead}
 use Rattle.lent_table.specs.Steps.{Past}

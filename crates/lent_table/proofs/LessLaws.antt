@@ -10,7 +10,8 @@ use mathlib.Core.Bool.{Bool, true, false, cond}
 use lib.Dec.{leb}
 use lib.ListN.{drop}
 use borrow.Author.Tests.{leb-true, leb-false}
-use Rattle.areas.specs.Interval.{Interval, interval, Inside, Listed, Above, Ascending}
+use Rattle.areas.specs.declared.Interval.{Interval}
+use Rattle.areas.specs.Interval.{interval, Inside, Listed, Above, Ascending}
 use Rattle.areas.specs.declared.Cut.{Cut}
 use Rattle.areas.specs.declared.Cut.TheVariants.{Gone, Rest, Split}
 use Rattle.areas.specs.Carve.{cut_by}
@@ -95,20 +96,20 @@ module _ (c : Interval) (solid : c.lo < c.hi) where
     cons_is k e = less_cons c r l ∙ ap (λ (x : Cut). left_of x ++ less c l) e
 
     pub cons_off : (r.hi ≤ c.lo) ⊎ (c.hi ≤ r.lo) → less c (r ∷ l) ≡ r ∷ less c l
-    cons_off (inl o) = cons_is (Rest r.lo r.hi) (before= c r.lo r.hi solid some o)
-    cons_off (inr o) = cons_is (Rest r.lo r.hi) (after= c r.lo r.hi solid some o)
+    cons_off (inl o) = cons_is (Rest r) (before= c r.lo r.hi solid some o)
+    cons_off (inr o) = cons_is (Rest r) (after= c r.lo r.hi solid some o)
 
     cons_gone : c.lo ≤ r.lo → r.hi ≤ c.hi → less c (r ∷ l) ≡ less c l
     cons_gone u v = cons_is Gone (gone= c r.lo r.hi solid some u v)
 
     cons_right : c.lo ≤ r.lo → r.lo < c.hi → c.hi < r.hi → less c (r ∷ l) ≡ interval c.hi r.hi ∷ less c l
-    cons_right u v w = cons_is (Rest c.hi r.hi) (right= c r.lo r.hi solid some u v w)
+    cons_right u v w = cons_is (Rest (interval c.hi r.hi)) (right= c r.lo r.hi solid some u v w)
 
     pub cons_left : r.lo < c.lo → c.lo < r.hi → r.hi ≤ c.hi → less c (r ∷ l) ≡ interval r.lo c.lo ∷ less c l
-    cons_left u v w = cons_is (Rest r.lo c.lo) (left= c r.lo r.hi solid some u v w)
+    cons_left u v w = cons_is (Rest (interval r.lo c.lo)) (left= c r.lo r.hi solid some u v w)
 
     pub cons_split : r.lo < c.lo → c.hi < r.hi → less c (r ∷ l) ≡ interval r.lo c.lo ∷ interval c.hi r.hi ∷ less c l
-    cons_split u v = cons_is (Split r.lo c.lo c.hi r.hi) (split= c r.lo r.hi solid some u v)
+    cons_split u v = cons_is (Split (interval r.lo c.lo) (interval c.hi r.hi)) (split= c r.lo r.hi solid some u v)
 
   -- areas that start after it
   pub less_after : (l : List Interval) (a : ℕ) → c.hi ≤ a → Above a l → less c l ≡ l

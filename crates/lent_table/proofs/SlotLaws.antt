@@ -5,7 +5,7 @@ use Prim.Native.Nat.{ℕ, ◌+◌, ◌-◌}
 use native.Mathlib.Omega.{arith}
 use lib.ListN.{length, get_or, set, drop}
 use lib.Seq.{drop_at}
-use Rattle.areas.specs.Interval.{Interval}
+use Rattle.areas.specs.declared.Interval.{Interval}
 use Rattle.areas.specs.Table.{flat}
 use Rattle.areas.proofs.Writing.{get_past, set_past, get_here, set_here, flat_length}
 use Rattle.lent_table.specs.Table.{table_in}

@@ -10,7 +10,8 @@ use lib.Dec.{leb, ltb, eqb}
 use lib.ListN.{length, get_or, drop}
 use lib.Seq.{drop-cons}
 use borrow.Author.Tests.{le-leb, lt-ltb, eq-eqb, leb-true, ltb-true, eqb-true}
-use Rattle.areas.specs.Interval.{Interval, interval, Above}
+use Rattle.areas.specs.declared.Interval.{Interval}
+use Rattle.areas.specs.Interval.{interval, Above}
 use Rattle.areas.specs.Shape.{WholePages}
 use Rattle.areas.specs.Steps.{Solid}
 use Rattle.areas.specs.Table.{flat, slots_in}

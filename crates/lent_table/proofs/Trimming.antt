@@ -9,7 +9,8 @@ use lib.Dec.{leb}
 use lib.ListN.{length, get_or, set, take, drop, replicate, length-append, length-drop, take-append-drop}
 use lib.Seq.{length-take-le}
 use borrow.Author.Tests.{le-leb, lt-leb}
-use Rattle.areas.specs.Interval.{Interval, interval}
+use Rattle.areas.specs.declared.Interval.{Interval}
+use Rattle.areas.specs.Interval.{interval}
 use Rattle.areas.specs.Table.{flat}
 use Rattle.areas.proofs.Writing.{flat_length}
 use Rattle.lent_table.specs.Edit.{lead, front, above}

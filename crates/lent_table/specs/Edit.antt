@@ -1,7 +1,8 @@
 -- What an edit promises, for any numbers that a caller lends: what comes of going through the areas once. Of areas that ascend that is the
 -- areas less the range, Less.less (CutLaws.cut_less).
 use Rattle.std.specs.Prelude.{List, [], ◌∷◌, ◌++◌, Bool, cond, not, ◌&&◌, ℕ, suc, leb, ltb, length, take, drop}
-use Rattle.areas.specs.Interval.{Interval, interval}
+use Rattle.areas.specs.declared.Interval.{Interval}
+use Rattle.areas.specs.Interval.{interval}
 use Rattle.areas.specs.Table.{slots_in, fits}
 use Rattle.lent_table.specs.Table.{table_in, table_with}
 

@@ -1,6 +1,7 @@
 -- The contracts of the steps inside an edit. No caller sees them: what an edit promises is Edit.edited.
 use Rattle.std.specs.Prelude.{◌≡◌, List, ◌∷◌, ◌++◌, ℕ, ◌+◌, ◌-◌, ◌≤◌, ◌<◌, length, get_or, drop, replicate}
-use Rattle.areas.specs.Interval.{Interval, interval}
+use Rattle.areas.specs.declared.Interval.{Interval}
+use Rattle.areas.specs.Interval.{interval}
 use Rattle.areas.specs.Steps.{All}
 use Rattle.areas.specs.Table.{flat}
 use Rattle.lent_table.specs.Table.{table_in}
@@ -50,15 +51,15 @@ unfoldable pub Rested : List ℕ → ℕ → ℕ → ℕ → List ℕ → ℕ �
 Rested l i n hi l' n' = (pre xs : List Interval) (post : List ℕ) → length pre ≡ i → i + length xs ≡ n → Upward xs
     → l ≡ flat pre ++ (flat xs ++ post) → Rest l i n hi l' n' pre xs post
 
--- split_at: the area in slot i, which reaches past hi, in two; what stands after it moves one slot on
-pub record Splits (l : List ℕ) (i n lo hi : ℕ) : Type 0 where
+-- split_at: the area in slot i, which reaches past the range c on both sides, in two; what stands after it moves one slot on
+pub record Splits (l : List ℕ) (i n : ℕ) (c : Interval) : Type 0 where
   pub at : i < n
   pub room : n + n + 2 ≤ length l
-  pub first : get_or l (i + i) 0 ≤ lo
-  pub order : lo ≤ hi
-  pub last : hi ≤ get_or l (i + i) 0 + get_or l (i + i + 1) 0
+  pub first : get_or l (i + i) 0 ≤ c.lo
+  pub order : c.lo ≤ c.hi
+  pub last : c.hi ≤ get_or l (i + i) 0 + get_or l (i + i + 1) 0
 
-unfoldable pub Parted : List ℕ → ℕ → ℕ → ℕ → ℕ → List ℕ → Type 0
-Parted l i n lo hi l' = (pre : List Interval) (r : Interval) (more : List Interval) (y z : ℕ) (post : List ℕ) → length pre ≡ i → i + 1 + length more ≡ n
+unfoldable pub Parted : List ℕ → ℕ → ℕ → Interval → List ℕ → Type 0
+Parted l i n c l' = (pre : List Interval) (r : Interval) (more : List Interval) (y z : ℕ) (post : List ℕ) → length pre ≡ i → i + 1 + length more ≡ n
     → l ≡ flat pre ++ (flat (r ∷ more) ++ (y ∷ z ∷ post))
-    → l' ≡ flat pre ++ (flat (interval r.lo lo ∷ interval hi r.hi ∷ more) ++ post)
+    → l' ≡ flat pre ++ (flat (interval r.lo c.lo ∷ interval c.hi r.hi ∷ more) ++ post)

@@ -2,7 +2,8 @@
 -- their place: request L3 of document 02.
 use Rattle.std.specs.Prelude.{List, [], ◌∷◌, ◌++◌, Bool, true, ◌&&◌, ℕ, zero, suc, ◌+◌, ◌-◌, ◌%◌, ◌≤◌, max, leb, ltb, eqb, length, drop, replicate}
 use Rattle.page.specs.Round.{top}
-use Rattle.areas.specs.Interval.{Interval, interval}
+use Rattle.areas.specs.declared.Interval.{Interval}
+use Rattle.areas.specs.Interval.{interval}
 use Rattle.areas.specs.Shape.{Shape}
 use Rattle.areas.specs.Table.{flat, slots_in}
 

@@ -1,8 +1,8 @@
 // The finished table where a caller lends it, as numbers: whether it can be one, and taking a range away from its areas in place. Nothing
 // here knows of a map or of a claim.
 //
-// Slot k is the numbers at places k + k and k + k + 1, an area's base and its size, and the first n slots are in use. A range goes from lo up
-// to hi, and hi is not in it. No base and size are added before it is known that the sum fits.
+// Slot k is the numbers at places k + k and k + k + 1, an area's base and its size, and the first n slots are in use. No base and size are
+// added before it is known that the sum fits.
 #![tactic(auto)]
 
 ghost use Rattle.std.specs.Prelude.{◌≡◌, ◌+◌, ◌≤◌, ◌<◌, leb, length};
@@ -10,6 +10,8 @@ ghost use Rattle.areas.specs.Interval.{interval};
 ghost use Rattle.lent_table.specs.Table.{good_area, good_table};
 ghost use Rattle.lent_table.specs.Edit.{crowds, lent, edited};
 ghost use Rattle.lent_table.specs.Steps.{Past, Inserted, Cleared, Slid, Trims, Trimmed, Rested, Splits, Parted};
+
+use areas::Interval;
 
 // T, the start of the last page: no area ends past it.
 const TOP: u64 = 0xffff_ffff_ffff_f000;
@@ -142,59 +144,59 @@ fn cut_rest(slots: &mut [u64], i: usize, n: usize, hi: u64) -> usize
     i + (n - j)
 }
 
-// The area in slot i reaches past the range on both sides: it stays up to lo, and what it is from hi on becomes an area of its own in the next
-// slot. The areas after it move one slot on.
-fn split_at(slots: &mut [u64], i: usize, n: usize, lo: u64, hi: u64)
-    requires { Splits slots.old i n lo hi }
-    ensures { Parted slots.old i n lo hi slots.new }
+// The area in slot i reaches past the range on both sides: it stays up to the range's start, and what it is from the range's end on becomes an
+// area of its own in the next slot. The areas after it move one slot on.
+fn split_at(slots: &mut [u64], i: usize, n: usize, range: Interval)
+    requires { Splits slots.old i n range }
+    ensures { Parted slots.old i n range slots.new }
 {
     let base = slots[i + i];
     let size = slots[i + i + 1];
-    slots[i + i + 1] = lo - base;
-    insert_area(slots, i + 1, n, hi, size - (hi - base));
+    slots[i + i + 1] = range.lo - base;
+    insert_area(slots, i + 1, n, range.hi, size - (range.hi - base));
 }
 
-// The first n areas less what lies from lo up to hi, where they stand, and how many they are then. Slot i is the first whose area ends past
-// lo: all before it stay as they are, and the rest depends on where this one lies. Nothing changes where the range is empty, the slots are
-// not there, or there is none for each area that is left.
-pub fn edit(slots: &mut [u64], n: usize, lo: u64, hi: u64) -> usize
-    ensures { lent result slots.new ≡ edited (interval lo hi) n slots.old }
+// The first n areas less the range, where they stand, and how many they are then. Slot i is the first whose area ends past the range's start:
+// all before it stay as they are, and the rest depends on where this one lies. Nothing changes where the range is empty, the slots are not
+// there, or there is none for each area that is left.
+pub fn edit(slots: &mut [u64], n: usize, range: Interval) -> usize
+    ensures { lent result slots.new ≡ edited range n slots.old }
 {
-    if hi <= lo {
+    if range.hi <= range.lo {
         return n;
     }
     if n > slots.len() / 2 {
         return n;
     }
-    let i = past(slots, 0, n, lo);
+    let i = past(slots, 0, n, range.lo);
     if n <= i {
         return n;
     }
     let base = slots[i + i];
-    if hi <= base {
+    if range.hi <= base {
         return n;
     }
-    if lo <= base {
-        return cut_rest(slots, i, n, hi);
+    if range.lo <= base {
+        return cut_rest(slots, i, n, range.hi);
     }
     let size = slots[i + i + 1];
-    if ends_by(base, size, hi) {
-        slots[i + i + 1] = lo - base;
-        return cut_rest(slots, i + 1, n, hi);
+    if ends_by(base, size, range.hi) {
+        slots[i + i + 1] = range.lo - base;
+        return cut_rest(slots, i + 1, n, range.hi);
     }
     if slots.len() / 2 <= n {
         return n;
     }
-    split_at(slots, i, n, lo, hi);
+    split_at(slots, i, n, range);
     n + 1
 }
 
-// Whether there is no slot for each area that is left when what lies from lo up to hi is taken away. That needs a slot more only where it
-// makes two areas of one, the first that ends past lo. An empty range takes nothing away, and nothing is taken from slots that are not there.
-pub fn crowded(slots: &[u64], n: usize, lo: u64, hi: u64) -> bool
-    ensures { result ≡ crowds (interval lo hi) n slots.now }
+// Whether there is no slot for each area that is left when the range is taken away. That needs a slot more only where it makes two areas of
+// one, the first that ends past the range's start. An empty range takes nothing away, and nothing is taken from slots that are not there.
+pub fn crowded(slots: &[u64], n: usize, range: Interval) -> bool
+    ensures { result ≡ crowds range n slots.now }
 {
-    if hi <= lo {
+    if range.hi <= range.lo {
         return false;
     }
     if n > slots.len() / 2 {
@@ -203,14 +205,14 @@ pub fn crowded(slots: &[u64], n: usize, lo: u64, hi: u64) -> bool
     if n < slots.len() / 2 {
         return false;
     }
-    let i = past(slots, 0, n, lo);
+    let i = past(slots, 0, n, range.lo);
     if n <= i {
         return false;
     }
     let base = slots[i + i];
-    if lo <= base {
+    if range.lo <= base {
         return false;
     }
     let size = slots[i + i + 1];
-    !ends_by(base, size, hi)
+    !ends_by(base, size, range.hi)
 }

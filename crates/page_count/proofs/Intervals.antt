@@ -15,7 +15,8 @@ use Rattle.entry.specs.declared.MemoryEntry.{MemoryEntry}
 use Rattle.entry.specs.Entry.{overlap, meet}
 use Rattle.entry.proofs.EntryLaws.{Meets, some, none, meets}
 use Rattle.memory.specs.Made.{Good}
-use Rattle.areas.specs.Interval.{Interval, Inside, Listed, Above}
+use Rattle.areas.specs.declared.Interval.{Interval}
+use Rattle.areas.specs.Interval.{Inside, Listed, Above}
 use Rattle.areas.specs.Areas.{span}
 use Rattle.areas.proofs.Lists.{Every}
 use Rattle.areas.proofs.SortLaws.{Off, Apart}

@@ -15,7 +15,7 @@ use Rattle.entry.specs.declared.Claim.{Claim}
 use Rattle.memory.specs.Map.{slots_of}
 use Rattle.memory.specs.Made.{Made, Good}
 use Rattle.listing.specs.Listing.{held, wants}
-use Rattle.areas.specs.Interval.{Interval}
+use Rattle.areas.specs.declared.Interval.{Interval}
 use Rattle.areas.specs.Areas.{limit_of, span, free_of}
 use Rattle.areas.proofs.Lists.{Every}
 use Rattle.areas.proofs.Those.{every_those}

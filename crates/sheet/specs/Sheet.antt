@@ -4,7 +4,7 @@ use Rattle.entry.specs.declared.MemoryEntry.{MemoryEntry}
 use Rattle.entry.specs.Entry.{meet}
 use Rattle.memory.specs.declared.MemoryMap.{MemoryMap}
 use Rattle.listing.specs.Listing.{held}
-use Rattle.areas.specs.Interval.{Interval}
+use Rattle.areas.specs.declared.Interval.{Interval}
 use Rattle.areas.specs.Areas.{limit_of, free_of, areas_of}
 use Rattle.sheet.specs.declared.PageSheet.{PageSheet}
 use Rattle.sheet.specs.Share.{share_of}

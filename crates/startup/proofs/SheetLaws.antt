@@ -10,7 +10,8 @@ use lib.Seq.{drop_at}
 use Rattle.page.specs.Round.{top, Page}
 use Rattle.memory.specs.declared.MemoryMap.{MemoryMap}
 use Rattle.memory.specs.Made.{Made}
-use Rattle.areas.specs.Interval.{Interval, Above}
+use Rattle.areas.specs.declared.Interval.{Interval}
+use Rattle.areas.specs.Interval.{Above}
 use Rattle.areas.specs.Areas.{areas_of}
 use Rattle.areas.specs.Table.{flat}
 use Rattle.areas.proofs.Lists.{Every}

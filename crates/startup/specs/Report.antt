@@ -7,7 +7,7 @@ use Rattle.order.specs.declared.Order.{Order}
 use Rattle.startup.specs.declared.Refusal.{Refusal}
 use Rattle.std.specs.Prelude.{◌≡◌, ℕ, cond, List, length, Option, Result, Ok, Err}
 use Rattle.memory.specs.declared.MemoryMap.{MemoryMap}
-use Rattle.areas.specs.Interval.{Interval}
+use Rattle.areas.specs.declared.Interval.{Interval}
 use Rattle.areas.specs.Areas.{areas_of}
 use Rattle.areas.specs.Table.{fits, table_of}
 use Rattle.sheet.specs.declared.PageSheet.{PageSheet}

@@ -11,4 +11,4 @@ pub shape_of-slots : goal.shape_of-slots
 shape_of-slots c = omega (arith, simp length-set at c.insert_area.auto.slots)
 
 pub returns : goal.returns
-returns c = parted _ _ _ _ _ _ (omega arith) c.insert_area.ensures
+returns c = parted _ _ _ _ _ (omega arith) c.insert_area.ensures
