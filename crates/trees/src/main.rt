@@ -145,7 +145,7 @@ fn property_name(strings: &[u8], a: usize, z: usize) -> &[u8] {
 // The next property from a place on, past NOPs, or none.
 fn property_from<'a>(tree: Tree<'a>, from: usize) -> usize {
     let mut at = from;
-    for _ in 0..structure.len() {
+    for _ in 0..tree.structure.len() {
         match fdt::token_at(tree, at) {
             Token::Nop(next) => {
                 at = next;
@@ -215,7 +215,7 @@ fn same_property<'a>(tree: Tree<'a>, text: &'a [u8], from: usize, at: usize) -> 
 fn same_properties<'a>(tree: Tree<'a>, text: &'a [u8], from: usize, node: usize) -> usize {
     let mut at = property_from(tree, content(tree, node));
     let mut p = from;
-    for _ in 0..structure.len() {
+    for _ in 0..tree.structure.len() {
         if at == NONE {
             return p;
         }
@@ -238,7 +238,7 @@ fn same_node<'a>(tree: Tree<'a>, text: &'a [u8], from: usize, node: usize, depth
 // The first property of a name of a node, or none: what nodes::getprop has to find.
 fn first_named<'a>(tree: Tree<'a>, node: usize, name: &'a [u8]) -> usize {
     let mut at = property_from(tree, content(tree, node));
-    for _ in 0..structure.len() {
+    for _ in 0..tree.structure.len() {
         if at == NONE {
             return NONE;
         }
@@ -293,7 +293,7 @@ fn finds_property<'a>(tree: Tree<'a>, node: usize, above: usize, at: usize) -> b
 
 fn finds_properties<'a>(tree: Tree<'a>, node: usize, above: usize) -> bool {
     let mut at = property_from(tree, content(tree, node));
-    for _ in 0..structure.len() {
+    for _ in 0..tree.structure.len() {
         if at == NONE {
             return true;
         }
@@ -370,7 +370,7 @@ fn matches<'a>(name: &'a [u8], step: &'a [u8]) -> bool {
 // The first child that a step names, or none: what nodes::subnode has to find.
 fn first_child<'a>(tree: Tree<'a>, node: usize, step: &'a [u8]) -> usize {
     let mut at = place(nodes::first_subnode(tree, node));
-    for _ in 0..structure.len() {
+    for _ in 0..tree.structure.len() {
         if at == NONE {
             return NONE;
         }
