@@ -58,7 +58,8 @@ impl From<ValueFault> for TreeRefusal {
     }
 }
 
-// The map stands before the answer so that its copies stay aligned.
+// A map by value after a tree. A refusal hands back the map as it came, so this is no Result. The map stands before the answer so that its
+// copies stay aligned.
 #[derive(Clone, Copy)]
 pub struct TreeRegistered {
     pub map: MemoryMap,

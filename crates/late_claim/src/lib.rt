@@ -29,7 +29,8 @@ impl Numbered for LateRefusal {
     }
 }
 
-// The map, and how many areas the table has, after a late claim. The map stands first so that its copies stay aligned.
+// The map, and how many areas the table has, after a late claim. A refusal hands back the map as it came, so this is no Result. The map
+// stands first so that its copies stay aligned.
 #[derive(Clone, Copy)]
 pub struct Late {
     pub map: MemoryMap,

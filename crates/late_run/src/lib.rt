@@ -10,7 +10,8 @@ use late_claim::LateRefusal;
 use memory::MemoryMap;
 
 // The map, and how many areas the table has, after the claims that are done; the answer of the first that is refused and its index,
-// counted from 0, or done and how many there are. The map stands first so that its copies stay aligned.
+// counted from 0, or done and how many there are. What the claims before a refusal did stands, so this is no Result. The map stands first so
+// that its copies stay aligned.
 #[derive(Clone, Copy)]
 pub struct LateRun {
     pub map: MemoryMap,

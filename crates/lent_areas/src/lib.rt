@@ -47,7 +47,7 @@ pub fn build(
     Ok(n)
 }
 
-// A row by value, and what the build into it answers.
+// A row by value, and what the build into it answers. A refusal hands back the row as it came, so this is no Result.
 #[derive(Clone, Copy)]
 pub struct Row {
     pub areas: [MemoryArea; 512],

@@ -11,7 +11,9 @@ ghost use Rattle.memory.specs.Run.{registered_all};
 use entry::{BootloaderMemoryKind, Claim, MemoryEntry};
 use numbers::Numbered;
 
-// The map: 512 slots, of which the first `size` are held.
+// The map: 512 slots, of which the first `size` are held: an array with a count beside it, since nothing here has a heap. That a map is
+// `Made` is asked by clauses and is no part of the type: `map_numbers::load` gives the map that any numbers are, and `Made` is said of
+// every page size.
 #[derive(Clone, Copy)]
 pub struct MemoryMap {
     pub entries: [MemoryEntry; 512],
@@ -33,7 +35,8 @@ impl Numbered for MapRefusal {
     }
 }
 
-// A map by value after a registration. The map stands before the answer so that its copies stay aligned.
+// A map by value after a registration. A refusal hands back the map as it came, so this is no Result. The map stands before the answer so
+// that its copies stay aligned.
 #[derive(Clone, Copy)]
 pub struct Registered {
     pub map: MemoryMap,
@@ -72,6 +75,7 @@ impl MemoryMap {
         ensures { answered self.new result ≡ inserted self.old entry }
     {
         let mut new = entry;
+        // The held slots grow fewer on the way, so no `for` goes over them.
         let mut index: usize = 0;
         while index < self.size {
             match absorbed(new, self.entries[index]) {

@@ -76,8 +76,8 @@ impl From<AreasRefusal> for Refusal {
     }
 }
 
-// The map with all registrations of an order file, or the empty one beside the refusal. The map stands first so that its copies stay
-// aligned.
+// The map with all registrations of an order file, or the empty one beside the refusal: that it is empty then is promised, so this is no
+// Result. The map stands first so that its copies stay aligned.
 #[derive(Clone, Copy)]
 pub struct Sources {
     pub map: MemoryMap,

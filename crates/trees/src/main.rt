@@ -25,7 +25,7 @@ const SMALL: usize = 16384;
 // The bytes of a path. The checks leave out a path that is longer.
 const PATH: usize = 8192;
 
-// A step of the walk: the next node and how many nodes stand above it; the end; or a place where no tree is.
+// A step of the walk: the next node and how many nodes stand above it; the end; or a place where no tree is. Three ways, so it is no Option.
 #[derive(Clone, Copy)]
 enum Next {
     Node(usize, usize),
@@ -34,10 +34,7 @@ enum Next {
 }
 
 fn difference(high: usize, low: usize) -> usize {
-    if high < low {
-        return 0;
-    }
-    high - low
+    high.saturating_sub(low)
 }
 
 // The place after a byte, if a text has it there.
