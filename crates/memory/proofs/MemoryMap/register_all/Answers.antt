@@ -17,8 +17,7 @@ returns-in_err-register_in c =
 
 pub loop-claim-preserved : goal.loop-claim-preserved
 loop-claim-preserved c =
-    let r : Registered = answered c.register_in.new.self c.register_in.result in
-    (
+    let r : Registered = answered c.register_in.new.self c.register_in.result in (
       one_made 4096 _ _ r page c.register_in.ensures c.loop-claim.invariant.0,
       sym (left_goes 4096 _ _ _ r c.loop-claim-test.true c.register_in.ensures (ap is_done c.in_ok-register_in.was)) ∙ c.loop-claim.invariant.1,
     )
