@@ -14,23 +14,9 @@ const ROUNDS: usize = 301;
 
 unsafe extern "C" {
     fn bench_list(list: *const u8, bytes: usize) -> usize;
-    fn bench_register(
-        starts: *const u64,
-        ends: *const u64,
-        kinds: *const u64,
-        size: usize,
-        base: u64,
-        kind: u64,
-    ) -> usize;
+    fn bench_register(entries: *const Entry, size: usize, base: u64, kind: u64) -> usize;
     fn bench_claims(tree: *const u8, bytes: usize, arm: bool) -> usize;
-    pub fn bench_build(
-        starts: *const u64,
-        ends: *const u64,
-        kinds: *const u64,
-        size: usize,
-        slots: *mut u64,
-        len: usize,
-    ) -> usize;
+    pub fn bench_build(entries: *const Entry, size: usize, slots: *mut u64, len: usize) -> usize;
 }
 
 /// The same work twice, ours and what it is timed beside: each answers what it took, and a count that must be equal.
@@ -52,16 +38,12 @@ pub fn map_of(claims: &[Claim]) -> Vec<Entry> {
     held()
 }
 
-/// A map in the form that ours takes.
-pub struct Columns(pub [[u64; 512]; 3], pub usize);
+/// A map in the form that ours takes: its entries, and how many of them are held.
+pub struct Lent(pub [Entry; 512], pub usize);
 
-pub fn columns(map: &[Entry]) -> Columns {
-    let mut all = Columns([[0; 512]; 3], map.len());
-    for (i, entry) in map.iter().enumerate() {
-        for (column, number) in all.0.iter_mut().zip(entry) {
-            column[i] = *number;
-        }
-    }
+pub fn lent(map: &[Entry]) -> Lent {
+    let mut all = Lent([[0; 3]; 512], map.len());
+    all.0[..map.len()].copy_from_slice(map);
     all
 }
 
@@ -85,7 +67,7 @@ fn list(name: &'static str, claims: &[Claim]) -> Work {
 /// One registration of a page in a full map, which is done or refused.
 fn single(name: &'static str, claims: &[Claim], base: u64, kind: u64, done: bool) -> Work {
     let map = map_of(claims);
-    let Columns([starts, ends, kinds], size) = columns(&map);
+    let Lent(entries, size) = lent(&map);
     let known = kind_of(kind).expect("a kind");
     Work {
         name,
@@ -101,18 +83,13 @@ fn single(name: &'static str, claims: &[Claim], base: u64, kind: u64, done: bool
             });
             (took, held().len())
         }),
-        ours: Box::new(move || {
-            timed(|| unsafe {
-                let (starts, ends, kinds) = (starts.as_ptr(), ends.as_ptr(), kinds.as_ptr());
-                bench_register(starts, ends, kinds, size, base, kind)
-            })
-        }),
+        ours: Box::new(move || timed(|| unsafe { bench_register(entries.as_ptr(), size, base, kind) })),
     }
 }
 
 fn build(name: &'static str, claims: &[Claim]) -> Work {
     let map = map_of(claims);
-    let Columns([starts, ends, kinds], size) = columns(&map);
+    let Lent(entries, size) = lent(&map);
     Work {
         name,
         beside: Box::new(move || {
@@ -121,10 +98,7 @@ fn build(name: &'static str, claims: &[Claim]) -> Work {
         }),
         ours: Box::new(move || {
             let mut slots = [0; 1024];
-            timed(|| unsafe {
-                let (starts, ends, kinds) = (starts.as_ptr(), ends.as_ptr(), kinds.as_ptr());
-                bench_build(starts, ends, kinds, size, slots.as_mut_ptr(), slots.len())
-            })
+            timed(|| unsafe { bench_build(entries.as_ptr(), size, slots.as_mut_ptr(), slots.len()) })
         }),
     }
 }

@@ -1,14 +1,12 @@
 //! A late claim for `oracle bench`: our call that edits the finished table, beside our build of the areas afresh from the
 //! map that has the claim.
-use crate::bench::{Columns, Work, bench_build, columns, map_of, timed};
+use crate::bench::{Lent, Work, bench_build, lent, map_of, timed};
 use crate::cases::{FREE, PAGE, RESERVED};
-use crate::rust::Claim;
+use crate::rust::{Claim, Entry};
 
 unsafe extern "C" {
     fn bench_late(
-        starts: *const u64,
-        ends: *const u64,
-        kinds: *const u64,
+        entries: *const Entry,
         size: usize,
         base: u64,
         kind: u64,
@@ -18,15 +16,14 @@ unsafe extern "C" {
     ) -> usize;
 }
 
-fn afresh(map: &Columns, slots: &mut [u64; 1024]) -> usize {
-    let Columns([starts, ends, kinds], size) = map;
-    unsafe { bench_build(starts.as_ptr(), ends.as_ptr(), kinds.as_ptr(), *size, slots.as_mut_ptr(), slots.len()) }
+fn afresh(map: &Lent, slots: &mut [u64; 1024]) -> usize {
+    let Lent(entries, size) = map;
+    unsafe { bench_build(entries.as_ptr(), *size, slots.as_mut_ptr(), slots.len()) }
 }
 
-fn late(map: &Columns, base: u64, slots: &mut [u64; 1024], count: usize) -> usize {
-    let Columns([starts, ends, kinds], size) = map;
-    let (starts, ends, kinds) = (starts.as_ptr(), ends.as_ptr(), kinds.as_ptr());
-    unsafe { bench_late(starts, ends, kinds, *size, base, RESERVED, slots.as_mut_ptr(), slots.len(), count) }
+fn late(map: &Lent, base: u64, slots: &mut [u64; 1024], count: usize) -> usize {
+    let Lent(entries, size) = map;
+    unsafe { bench_late(entries.as_ptr(), *size, base, RESERVED, slots.as_mut_ptr(), slots.len(), count) }
 }
 
 /// One Free entry cut into so many areas by Reserved pages: the first of so many pages, the others of one.
@@ -44,8 +41,8 @@ fn apart(areas: u64, first: u64) -> Vec<Claim> {
 /// Page `page` is claimed late. Both must come to the same slots before either is timed.
 fn work(name: String, claims: &[Claim], page: u64) -> Work {
     let base = page * PAGE;
-    let map = columns(&map_of(claims));
-    let with = columns(&map_of(&[claims, &[[base, PAGE, RESERVED]]].concat()));
+    let map = lent(&map_of(claims));
+    let with = lent(&map_of(&[claims, &[[base, PAGE, RESERVED]]].concat()));
     let mut table = [0; 1024];
     let count = afresh(&map, &mut table);
     let (mut left, mut built) = (table, [0; 1024]);

@@ -1,7 +1,7 @@
 -- What the timed build and the timed late claim answer.
-use Rattle.areas.specs.declared.AreasRefusal.TheVariants.{TooManyAreas}
 use Rattle.areas.specs.declared.AreasRefusal.{AreasRefusal}
-use Rattle.std.specs.Prelude.{◌≡◌, List, ℕ, None, Result, Ok, Err}
+use Rattle.std.specs.Prelude.{◌≡◌, List, ℕ, None, Result}
+use Rattle.std.specs.Result.{result_unwrap_or}
 use Rattle.entry.specs.declared.Claim.{Claim}
 use Rattle.memory.specs.declared.MemoryMap.{MemoryMap}
 use Rattle.areas.specs.Areas.{areas_of}
@@ -10,8 +10,7 @@ use Rattle.late_claim.specs.Late.{late_of}
 
 -- the number of areas, or 0 where they are too many
 abbrev pub count_of : Result ℕ AreasRefusal → ℕ
-count_of (Ok n) = n
-count_of (Err TooManyAreas) = 0
+count_of r = result_unwrap_or r 0
 
 -- a build without limits
 pub record BuildsFree (p : ℕ) (m : MemoryMap) (l l' : List ℕ) (n : ℕ) : Type 0 where

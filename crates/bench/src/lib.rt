@@ -8,7 +8,7 @@ ghost use Rattle.memory.specs.Made.{Made};
 ghost use Rattle.bootloader.specs.List.{listed};
 ghost use Rattle.bench.specs.Timed.{BuildsFree, LateIs};
 
-use areas::{Built, Limit};
+use entry::MemoryEntry;
 use memory::MemoryMap;
 
 // Registers a list in the empty map, and answers how many entries are held then.
@@ -24,20 +24,16 @@ pub extern "C" fn bench_list(list: &[u8]) -> usize
 // Registers one page by value, and answers how many entries are held then.
 #[unsafe(no_mangle)]
 pub extern "C" fn bench_register(
-    starts: &[u64; 512],
-    ends: &[u64; 512],
-    kinds: &[u64; 512],
+    entries: &[MemoryEntry; 512],
     size: usize,
     base: u64,
     kind: u64,
 ) -> usize
-    requires { Made 4096 (map_of starts.now ends.now kinds.now size) }
-    ensures { result ≡ (registered 4096 (map_of starts.now ends.now kinds.now size) (claim base 4096 kind)).map.size }
+    requires { Made 4096 (map_of entries.now size) }
+    ensures { result ≡ (registered 4096 (map_of entries.now size) (claim base 4096 kind)).map.size }
 {
     let map = MemoryMap {
-        starts: *starts,
-        ends: *ends,
-        kinds: *kinds,
+        entries: *entries,
         size,
     };
     let r = map.register(base, 4096, kind);
@@ -47,47 +43,32 @@ pub extern "C" fn bench_register(
 
 // Builds the areas of a map without limits, and answers how many they are, or 0 where they do not fit.
 #[unsafe(no_mangle)]
-pub extern "C" fn bench_build(
-    starts: &[u64; 512],
-    ends: &[u64; 512],
-    kinds: &[u64; 512],
-    size: usize,
-    slots: &mut [u64],
-) -> usize
-    requires { Made 4096 (map_of starts.now ends.now kinds.now size) }
-    ensures { BuildsFree 4096 (map_of starts.now ends.now kinds.now size) slots.old slots.new result }
+pub extern "C" fn bench_build(entries: &[MemoryEntry; 512], size: usize, slots: &mut [u64]) -> usize
+    requires { Made 4096 (map_of entries.now size) }
+    ensures { BuildsFree 4096 (map_of entries.now size) slots.old slots.new result }
 {
     let map = MemoryMap {
-        starts: *starts,
-        ends: *ends,
-        kinds: *kinds,
+        entries: *entries,
         size,
     };
-    match areas::build(map, Limit::Missing, Limit::Missing, slots) {
-        Built::Done(n) => n,
-        Built::TooManyAreas => 0,
-    }
+    areas::build(map, None, None, slots).unwrap_or(0)
 }
 
 // A late claim of one page by value, and answers how many slots of the table are used then.
 #[unsafe(no_mangle)]
 pub extern "C" fn bench_late(
-    starts: &[u64; 512],
-    ends: &[u64; 512],
-    kinds: &[u64; 512],
+    entries: &[MemoryEntry; 512],
     size: usize,
     base: u64,
     kind: u64,
     slots: &mut [u64],
     count: usize,
 ) -> usize
-    requires { Made 4096 (map_of starts.now ends.now kinds.now size) }
-    ensures { LateIs 4096 (map_of starts.now ends.now kinds.now size) (claim base 4096 kind) count slots.old slots.new result }
+    requires { Made 4096 (map_of entries.now size) }
+    ensures { LateIs 4096 (map_of entries.now size) (claim base 4096 kind) count slots.old slots.new result }
 {
     let map = MemoryMap {
-        starts: *starts,
-        ends: *ends,
-        kinds: *kinds,
+        entries: *entries,
         size,
     };
     let r = late_claim::claim_late(map, base, 4096, kind, slots, count);

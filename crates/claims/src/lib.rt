@@ -40,18 +40,15 @@ impl Way {
 // What a tree is refused for, beyond its form.
 #[derive(Clone, Copy)]
 pub enum ValueFault {
-    UnreadableReg,
-    UnreadableRanges,
+    UnreadableReg = 7,
+    UnreadableRanges = 8,
 }
 
 impl Numbered for ValueFault {
     ghost number_of = { value_fault_number };
 
     fn number(self) -> u8 {
-        match self {
-            ValueFault::UnreadableReg => 7,
-            ValueFault::UnreadableRanges => 8,
-        }
+        self as u8
     }
 }
 

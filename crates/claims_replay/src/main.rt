@@ -4,12 +4,14 @@
 
 ghost use Rattle.memory.specs.Made.{Made};
 
-use fdt::{Blocks, Opened, Token};
+use entry::Claim;
+use fdt::{Blocks, Token};
 use memory::{MemoryMap, Registered};
+use numbers::Numbered;
 use std::io::{Read, Result};
 use stream::Tally;
 use translation::{Sought, Translated};
-use visit::{Claimed, Step};
+use visit::Step;
 
 // The bytes that are held of the stream. A case has fewer.
 const SPACE: usize = 131072;
@@ -108,12 +110,8 @@ fn map_before(buf: &[u8], at: usize, count: u64) -> MemoryMap
     ensures { Made 4096 result }
 {
     let mut held = start();
-    let mut i: u64 = 0;
-    while i < count {
-        let r = register_at(buf, stream::past_threes(buf, at, i), held);
-        let next = r.map;
-        held = next;
-        i += 1;
+    for i in 0..count {
+        held = register_at(buf, stream::past_threes(buf, at, i), held).map;
     }
     held
 }
@@ -127,19 +125,17 @@ fn same_map(buf: &[u8], at: usize, map: MemoryMap) -> bool {
     if 512 < n {
         return false;
     }
-    let mut i: usize = 0;
-    while i < n {
-        let entry = stream::past_threes(buf, stream::past(buf, at, 1), i as u64);
-        if !stream::is_three(buf, entry, map.starts[i], map.ends[i], map.kinds[i]) {
+    for (i, entry) in map.entries[..n].iter().enumerate() {
+        let place = stream::past_threes(buf, stream::past(buf, at, 1), i as u64);
+        if !stream::is_three(buf, place, entry.start, entry.end, entry.kind) {
             return false;
         }
-        i += 1;
     }
     true
 }
 
 // Whether a claim is that of a number at a place, where `count` of them stand.
-fn is_claim(buf: &[u8], at: usize, count: u64, number: u64, claim: Claimed) -> bool {
+fn is_claim(buf: &[u8], at: usize, count: u64, number: u64, claim: Claim) -> bool {
     if count <= number {
         return false;
     }
@@ -148,7 +144,7 @@ fn is_claim(buf: &[u8], at: usize, count: u64, number: u64, claim: Claimed) -> b
 }
 
 // Whether the claims of a tree's blocks are the `count` at a place, or their first `enough` are. A proved loop has to
-// end, and a cursor does not show that it comes to an end, so the steps are counted down.
+// end, and a cursor does not show that it comes to an end, so there are so many steps and no more.
 fn same_claims<'a>(
     buf: &'a [u8],
     at: usize,
@@ -161,9 +157,7 @@ fn same_claims<'a>(
 ) -> bool {
     let mut cursor = visit::first_claim();
     let mut seen: u64 = 0;
-    let mut steps = STEPS;
-    while 0 < steps {
-        steps -= 1;
+    for _ in 0..STEPS {
         if seen == enough {
             return true;
         }
@@ -214,22 +208,19 @@ fn tree_claims<'a>(
     arm: bool,
 ) -> bool {
     match fdt::open_tree(tree) {
-        Opened::Tree(blocks) => opened_claims(buf, at, count, enough, tree, blocks, arm),
-        Opened::NoTree => count == 0,
-        Opened::BadHeader => count == 0,
-        Opened::OverLimit => count == 0,
-        Opened::BadStructure => count == 0,
+        Ok(Some(blocks)) => opened_claims(buf, at, count, enough, tree, blocks, arm),
+        Ok(None) | Err(_) => count == 0,
     }
 }
 
 // Whether an address and the number of nodes tried stand at a place; zeros stand for none.
-fn is_translated(buf: &[u8], at: usize, found: Translated) -> bool {
-    if stream::nth(buf, at, 1) != found.number() as u64 {
+fn is_translated(buf: &[u8], at: usize, found: Option<Translated>) -> bool {
+    if stream::nth(buf, at, 1) != translation::number(found) as u64 {
         return false;
     }
     match found {
-        Translated::Found(region, _) => stream::word(buf, at) == region.address,
-        Translated::NoAddress => stream::word(buf, at) == 0,
+        Some(translated) => stream::word(buf, at) == translated.region.address,
+        None => stream::word(buf, at) == 0,
     }
 }
 
@@ -246,13 +237,11 @@ fn same_translation<'a>(
 }
 
 // Whether the first `reg` entries of all nodes of a tree's blocks, the root first, are translated as it stands at a
-// place. The nodes come in document order, as their tokens do. A proved loop has to end, so the steps are counted down.
+// place. The nodes come in document order, as their tokens do. A proved loop has to end, so there are so many steps and no more.
 fn same_translations<'a>(buf: &'a [u8], at: usize, structure: &'a [u8], strings: &'a [u8]) -> bool {
     let mut place: usize = 0;
     let mut seen: u64 = 0;
-    let mut steps = STEPS;
-    while 0 < steps {
-        steps -= 1;
+    for _ in 0..STEPS {
         match fdt::token_at(structure, strings, place) {
             Token::Begin(_, next) => {
                 let there = translation_at(buf, at, seen);
@@ -262,13 +251,7 @@ fn same_translations<'a>(buf: &'a [u8], at: usize, structure: &'a [u8], strings:
                 seen += 1;
                 place = next;
             }
-            Token::EndNode(next) => {
-                place = next;
-            }
-            Token::Prop(_, _, _, next) => {
-                place = next;
-            }
-            Token::Nop(next) => {
+            Token::EndNode(next) | Token::Prop(_, _, _, next) | Token::Nop(next) => {
                 place = next;
             }
             Token::Fin => {
@@ -285,16 +268,13 @@ fn same_translations<'a>(buf: &'a [u8], at: usize, structure: &'a [u8], strings:
 // The same of a tree's bytes. What cannot be opened has no nodes.
 fn tree_translations<'a>(buf: &'a [u8], at: usize, tree: &'a [u8]) -> bool {
     match fdt::open_tree(tree) {
-        Opened::Tree(blocks) => {
+        Ok(Some(blocks)) => {
             let b = blocks.structure;
             let n = blocks.strings;
             let structure = words::part(tree, b.at, b.len);
             same_translations(buf, at, structure, words::part(tree, n.at, n.len))
         }
-        Opened::NoTree => stream::word(buf, at) == 0,
-        Opened::BadHeader => stream::word(buf, at) == 0,
-        Opened::OverLimit => stream::word(buf, at) == 0,
-        Opened::BadStructure => stream::word(buf, at) == 0,
+        Ok(None) | Err(_) => stream::word(buf, at) == 0,
     }
 }
 
@@ -328,8 +308,7 @@ fn replay_case(buf: &[u8], at: usize) -> u64 {
     let arm = stream::nth(buf, at, 1) == 1;
     let map = map_before(buf, p.before, stream::word(buf, at));
     let r = dtb::register_devicetree(map, tree, arm);
-    let answer = r.answer;
-    let number = stream::wide(answer.number());
+    let number = stream::wide(r.answer.number());
     if number != stream::word(buf, p.answer) {
         return 1;
     }
@@ -337,8 +316,7 @@ fn replay_case(buf: &[u8], at: usize) -> u64 {
     if !answered_claims(buf, p.claims, count, number, tree, arm) {
         return 2;
     }
-    let after = r.map;
-    if !same_map(buf, p.map, after) {
+    if !same_map(buf, p.map, r.map) {
         return 3;
     }
     if !tree_translations(buf, p.translations, tree) {
@@ -347,15 +325,13 @@ fn replay_case(buf: &[u8], at: usize) -> u64 {
     0
 }
 
-// Replays case after case. A proved loop has to end, and nothing says that a stream does, so it counts its turns
-// down, from a number that no run uses up.
+// Replays case after case. A proved loop has to end, and nothing says that a stream does, so its turns are as many as
+// no run uses up.
 fn replay<R: Read, E: Eprint>(input: &mut R, told: &E, buf: &mut [u8; SPACE]) -> Tally {
     let mut tally = stream::fresh();
     let mut have: usize = 0;
     let mut at: usize = 0;
-    let mut turns = u64::MAX;
-    while 0 < turns {
-        turns -= 1;
+    for _ in 0..u64::MAX {
         if !is_whole(buf, at, have) {
             have = stream::refill(input, told, buf, at, have);
             at = 0;

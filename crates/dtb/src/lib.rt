@@ -19,26 +19,19 @@ use visit::Step;
 // Why the tree's call is refused. Each case has its number in document 01.
 #[derive(Clone, Copy)]
 pub enum TreeRefusal {
-    BadHeader,
-    OverLimit,
-    BadStructure,
-    UnreadableReg,
-    UnreadableRanges,
-    MapFull,
+    BadHeader = 4,
+    OverLimit = 6,
+    BadStructure = 5,
+    UnreadableReg = 7,
+    UnreadableRanges = 8,
+    MapFull = 2,
 }
 
 impl Numbered for TreeRefusal {
     ghost number_of = { tree_refusal_number };
 
     fn number(self) -> u8 {
-        match self {
-            TreeRefusal::BadHeader => 4,
-            TreeRefusal::OverLimit => 6,
-            TreeRefusal::BadStructure => 5,
-            TreeRefusal::UnreadableReg => 7,
-            TreeRefusal::UnreadableRanges => 8,
-            TreeRefusal::MapFull => 2,
-        }
+        self as u8
     }
 }
 

@@ -1,5 +1,5 @@
 -- Document 01, "Edges to prove (one table)": rounding, the map, the reservation block, the limits and the window, each computed. Assumes nothing.
-use Rattle.std.specs.Prelude.{Option, Some, None, ℕ}
+use Rattle.std.specs.Prelude.{Option, Some, None}
 use mathlib.Core.Path.{◌≡◌, refl}
 use mathlib.Core.List.{List, [], ◌∷◌}
 use mathlib.Core.Bool.{true, false}
@@ -38,7 +38,7 @@ pub data Row : Type 0 where
 -- every row is right
 pub data All : List Row → Type 0 where
   end : All []
-  run : {cs : List Claim} {low high : (Option ℕ)} {es : List MemoryEntry} {is : List Interval} {rs : List Row}
+  run : {cs : List Claim} {low high : Option ℕ} {es : List MemoryEntry} {is : List Interval} {rs : List Row}
       → Accepted 4096 cs → held (map_after 4096 cs) ≡ es → areas_after 4096 low high cs ≡ is → All rs → All (registering cs low high es is ∷ rs)
   reserved : {r : Region} {cs : List Claim} {es : List MemoryEntry} {rs : List Row}
       → block_claims (r ∷ []) ≡ cs → Accepted 4096 cs → held (map_after 4096 cs) ≡ es → All rs → All (reserving r cs es ∷ rs)

@@ -8,13 +8,13 @@ ghost use Rattle.entry.specs.Claim.{rounded};
 
 #[derive(Clone, Copy)]
 pub enum BootloaderMemoryKind {
-    Null,
-    Free,
-    Reclaim,
-    Reserved,
-    Kernel,
-    Device,
-    IdentityMap,
+    Null = 0,
+    Free = 1,
+    Reclaim = 2,
+    Reserved = 3,
+    Kernel = 0x100,
+    Device = 0x101,
+    IdentityMap = 0x102,
 }
 
 impl BootloaderMemoryKind {
@@ -22,15 +22,7 @@ impl BootloaderMemoryKind {
     pub fn number(self) -> u64
         ensures { result ≡ number_of self }
     {
-        match self {
-            BootloaderMemoryKind::Null => 0,
-            BootloaderMemoryKind::Free => 1,
-            BootloaderMemoryKind::Reclaim => 2,
-            BootloaderMemoryKind::Reserved => 3,
-            BootloaderMemoryKind::Kernel => 0x100,
-            BootloaderMemoryKind::Device => 0x101,
-            BootloaderMemoryKind::IdentityMap => 0x102,
-        }
+        self as u64
     }
 }
 
@@ -58,7 +50,8 @@ pub struct Claim {
     pub kind: u64,
 }
 
-// The addresses from start up to, not including, end, and the number of their kind.
+// The addresses from start up to, not including, end, and the number of their kind. Its layout is C's, so that an export can be lent entries.
+#[repr(C)]
 #[derive(Clone, Copy)]
 pub struct MemoryEntry {
     pub start: u64,

@@ -27,20 +27,16 @@ pub enum Token {
 // What a tree is refused for, by its form.
 #[derive(Clone, Copy)]
 pub enum TreeFault {
-    BadHeader,
-    OverLimit,
-    BadStructure,
+    BadHeader = 4,
+    OverLimit = 6,
+    BadStructure = 5,
 }
 
 impl Numbered for TreeFault {
     ghost number_of = { fault_number };
 
     fn number(self) -> u8 {
-        match self {
-            TreeFault::BadHeader => 4,
-            TreeFault::OverLimit => 6,
-            TreeFault::BadStructure => 5,
-        }
+        self as u8
     }
 }
 

@@ -14,24 +14,18 @@ use numbers::Numbered;
 // Why a late claim is refused, in the order in which this is checked. Each case has its number in document 02.
 #[derive(Clone, Copy)]
 pub enum LateRefusal {
-    UnknownKind,
-    NotLate,
-    BadTable,
-    MapFull,
-    TooManyAreas,
+    UnknownKind = 1,
+    NotLate = 13,
+    BadTable = 14,
+    MapFull = 2,
+    TooManyAreas = 3,
 }
 
 impl Numbered for LateRefusal {
     ghost number_of = { late_refusal_number };
 
     fn number(self) -> u8 {
-        match self {
-            LateRefusal::UnknownKind => 1,
-            LateRefusal::NotLate => 13,
-            LateRefusal::BadTable => 14,
-            LateRefusal::MapFull => 2,
-            LateRefusal::TooManyAreas => 3,
-        }
+        self as u8
     }
 }
 

@@ -1,7 +1,6 @@
 -- A table that came from its map and limits, by a build or by late claims: it holds the map's areas, and after one more late claim it is
 -- a build afresh with the claim included: request L3 of document 02. For every page size. Assumes nothing.
-use Rattle.areas.specs.declared.AreasRefusal.{AreasRefusal}
-use Rattle.std.specs.Prelude.{Option, ℕ, Result}
+use Rattle.std.specs.Prelude.{Option, ℕ, Result, Ok}
 use mathlib.Core.Path.{◌≡◌, refl, ap, sym, ◌∙◌}
 use mathlib.Core.List.{List}
 use mathlib.Core.Logic.{◌↔◌, inr}
@@ -15,7 +14,7 @@ use Rattle.memory.specs.declared.MemoryMap.{MemoryMap}
 use Rattle.memory.specs.Map.{answer_number, registered}
 use Rattle.memory.specs.Made.{Made}
 use Rattle.memory.proofs.MapLaws.{registered_made}
-use Rattle.areas.specs.declared.AreasRefusal.TheVariants as build
+use Rattle.areas.specs.declared.AreasRefusal.{AreasRefusal}
 use Rattle.areas.specs.Interval.{Interval}
 use Rattle.areas.specs.Areas.{areas_of}
 use Rattle.areas.specs.Table.{built_number, flat, slots_in, Builds}
@@ -42,7 +41,7 @@ used_numbers n l h =
     ∙ take_at (flat (table_in n l)) (drop (n + n) l) (n + n) (omega (arith, flat_length (table_in n l), table_size n l h))
 
 -- a build that is done gives the map's table
-pub built_is : {p : ℕ} {low high : (Option ℕ)} {m : MemoryMap} {n : ℕ} {l l' : List ℕ} → Made p m → Builds p m low high l l' (Ok n) → Is p low high m n l'
+pub built_is : {p : ℕ} {low high : Option ℕ} {m : MemoryMap} {n : ℕ} {l l' : List ℕ} → Made p m → Builds p m low high l l' (Ok n) → Is p low high m n l'
 built_is {p} {low} {high} {m} {n} {l} {l'} made b =
     let areas = areas_of p low high m in
     let a = build_answers b in
@@ -58,13 +57,13 @@ built_is {p} {low} {high} {m} {n} {l} {l'} made b =
     }
 
 -- such a table passes 14
-pub is_good : {p : ℕ} {low high : (Option ℕ)} {m : MemoryMap} {n : ℕ} {l : List ℕ} → Page p → Is p low high m n l → TableStands p n l
+pub is_good : {p : ℕ} {low high : Option ℕ} {m : MemoryMap} {n : ℕ} {l : List ℕ} → Page p → Is p low high m n l → TableStands p n l
 is_good {p} {low} {high} {m} {n} {l} g is =
     (stands_good p n l).0 (record { room = is.room; shape = rw is.areas (areas_of_shape is.made low high g) })
 
 -- a build of the same map on as many slots, whatever was in them, is done with the same count and the same used numbers
-is_afresh : {p : ℕ} {low high : (Option ℕ)} {m : MemoryMap} {n : ℕ} {l k k' : List ℕ} {b : (Result ℕ AreasRefusal)} → Is p low high m n l → slots_in k ≡ slots_in l → Builds p m low high k k' b
-    → (b ≡ Ok n) × (take (n + n) l ≡ take (n + n) k')
+is_afresh : {p : ℕ} {low high : Option ℕ} {m : MemoryMap} {n : ℕ} {l k k' : List ℕ} {b : Result ℕ AreasRefusal} → Is p low high m n l
+    → slots_in k ≡ slots_in l → Builds p m low high k k' b → (b ≡ Ok n) × (take (n + n) l ≡ take (n + n) k')
 is_afresh {p} {low} {high} {m} {n} {l} {k} {k'} {b} is e w =
     let areas = areas_of p low high m in
     let a = build_answers w in
@@ -75,7 +74,7 @@ is_afresh {p} {low} {high} {m} {n} {l} {k} {k'} {b} is e w =
           ∙ sym (ap (λ (x : List ℕ). take (n + n) x) (a.writes done) ∙ take_at (flat areas) (drop (length areas + length areas) k) (n + n) (omega (arith, flat_length areas))),
     )
 
-module _ {p : ℕ} {low high : (Option ℕ)} {m : MemoryMap} {n : ℕ} {l : List ℕ} (g : Page p) (is : Is p low high m n l) (c : Claim) where
+module _ {p : ℕ} {low high : Option ℕ} {m : MemoryMap} {n : ℕ} {l : List ℕ} (g : Page p) (is : Is p low high m n l) (c : Claim) where
   -- the areas that are left are those of the map that has the claim
   left_afresh : LateKind c → answer_number (registered p m c).answer ≡ 0 → areas_left p c n l ≡ areas_of p low high (registered p m c).map
   left_afresh kind z =
@@ -107,7 +106,8 @@ module _ {p : ℕ} {low high : (Option ℕ)} {m : MemoryMap} {n : ℕ} {l : List
 
   -- THEOREM, a build afresh: after a late claim that is done, "the used slots afterwards equal a build afresh with the claim included",
   -- on as many slots and whatever was in them
-  pub late_afresh : late_gives p m c n l ≡ 0 → {k k' : List ℕ} {b : (Result ℕ AreasRefusal)} → slots_in k ≡ slots_in l → Builds p (registered p m c).map low high k k' b
+  pub late_afresh : late_gives p m c n l ≡ 0 → {k k' : List ℕ} {b : Result ℕ AreasRefusal} → slots_in k ≡ slots_in l
+      → Builds p (registered p m c).map low high k k' b
       → (b ≡ Ok (late_of p m c n l).count)
       × (take ((late_of p m c n l).count + (late_of p m c n l).count) (late_of p m c n l).table ≡ take ((late_of p m c n l).count + (late_of p m c n l).count) k')
   late_afresh done e b =
@@ -123,7 +123,7 @@ module _ {p : ℕ} {low high : (Option ℕ)} {m : MemoryMap} {n : ℕ} {l : List
       )
 
   -- so a claim that is not refused for another reason is refused exactly where a build afresh is
-  pub many_built : LateKind c → answer_number (registered p m c).answer ≡ 0 → {k k' : List ℕ} {b : (Result ℕ AreasRefusal)} → slots_in k ≡ slots_in l
+  pub many_built : LateKind c → answer_number (registered p m c).answer ≡ 0 → {k k' : List ℕ} {b : Result ℕ AreasRefusal} → slots_in k ≡ slots_in l
       → Builds p (registered p m c).map low high k k' b → (late_gives p m c n l ≡ 3) ↔ (built_number b ≡ 3)
   many_built kind z e b =
       let three = (build_answers b).refused in (
@@ -139,10 +139,10 @@ module _ {p : ℕ} {low high : (Option ℕ)} {m : MemoryMap} {n : ℕ} {l : List
       omega (arith, more, areas_of_few made low high, made.room)
 
 -- THEOREM, a table that came from its map and limits holds the map's areas
-pub came_is : {p : ℕ} {low high : (Option ℕ)} {m : MemoryMap} {n : ℕ} {l : List ℕ} → Page p → Came p low high m n l → Is p low high m n l
+pub came_is : {p : ℕ} {low high : Option ℕ} {m : MemoryMap} {n : ℕ} {l : List ℕ} → Page p → Came p low high m n l → Is p low high m n l
 came_is g (built made b) = built_is made b
 came_is g (later c h) = later_is g (came_is g h) c
 
 -- so it passes 14
-pub came_good : {p : ℕ} {low high : (Option ℕ)} {m : MemoryMap} {n : ℕ} {l : List ℕ} → Page p → Came p low high m n l → TableStands p n l
+pub came_good : {p : ℕ} {low high : Option ℕ} {m : MemoryMap} {n : ℕ} {l : List ℕ} → Page p → Came p low high m n l → TableStands p n l
 came_good g h = is_good g (came_is g h)

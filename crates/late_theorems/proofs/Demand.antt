@@ -1,6 +1,6 @@
 -- Demand 3 with late claims: request L3 of document 02, "Of a table that came from its map and limits so, demand 3 reads late claims as
 -- registrations." For every page size. Assumes nothing.
-use Rattle.std.specs.Prelude.{Option, ℕ}
+use Rattle.std.specs.Prelude.{Option, ℕ, Ok}
 use mathlib.Core.Path.{◌≡◌, refl, ap, sym, ◌∙◌}
 use mathlib.Core.List.{List, [], ◌∷◌, ◌++◌}
 use mathlib.Core.Logic.{◌↔◌}
@@ -9,7 +9,6 @@ use lib.ListN.{length, take}
 use Rattle.page.specs.Round.{Page}
 use Rattle.entry.specs.declared.Claim.{Claim}
 use Rattle.memory.specs.declared.MemoryMap.{MemoryMap}
-use Rattle.memory.specs.declared.MapRefusal.TheVariants as refusal
 use Rattle.memory.specs.declared.Registered.{Registered}
 use Rattle.memory.specs.Map.{registered, blank, answered}
 use Rattle.memory.specs.Run.{registered_all}
@@ -35,20 +34,20 @@ run_more : (p : ℕ) (cs : List Claim) (c : Claim) → Accepted p cs → (regist
 run_more p cs c a d = run_append p blank cs (c ∷ []) a ∙ run_on p (map_after p cs) c [] d ∙ run_nil p (registered p (map_after p cs) c).map
 
 -- THEOREM, late claims are registrations: the run of all together is accepted, the map is the one that it leaves, and the table holds its areas
-pub dealt : {p : ℕ} {low high : (Option ℕ)} {cs : List Claim} {m : MemoryMap} {n : ℕ} {l : List ℕ} → Page p → Dealt p low high cs m n l
+pub dealt : {p : ℕ} {low high : Option ℕ} {cs : List Claim} {m : MemoryMap} {n : ℕ} {l : List ℕ} → Page p → Dealt p low high cs m n l
     → Accepted p cs × (m ≡ map_after p cs) × Is p low high m n l
 dealt g (sources {cs} a b) = (a, refl, built_is (after_made _ cs g) b)
 dealt {p} g (late {cs} {m} {n} {l} c h done) =
     let d = dealt g h in
     let e = unrefused p m c n l done in
-    let accepted : (registered p m c).answer ≡ (Ok tt) = map_done (registered p m c).answer e.registers in
+    let accepted : (registered p m c).answer ≡ Ok tt = map_done (registered p m c).answer e.registers in
     let more = run_more p cs c d.0 (rw d.1 at accepted) in (
       ap (λ (x : Registered). x.answer) more,
       ap (λ (x : After). x.map) e.is ∙ ap (λ (x : MemoryMap). (registered p x c).map) d.1 ∙ sym (ap (λ (x : Registered). x.map) more),
       done_is g d.2 c done,
     )
 
-module _ {p : ℕ} {low high : (Option ℕ)} {cs : List Claim} {m : MemoryMap} {n : ℕ} {l : List ℕ} (g : Page p) (h : Dealt p low high cs m n l) where
+module _ {p : ℕ} {low high : Option ℕ} {cs : List Claim} {m : MemoryMap} {n : ℕ} {l : List ℕ} (g : Page p) (h : Dealt p low high cs m n l) where
   dealt_areas : table_in n l ≡ areas_after p low high cs
   dealt_areas = let d = dealt g h in d.2.areas ∙ ap (λ (x : MemoryMap). areas_of p low high x) d.1
 
@@ -68,7 +67,7 @@ module _ {p : ℕ} {low high : (Option ℕ)} {cs : List Claim} {m : MemoryMap} {
 
 -- THEOREM, any order: however the registrations and the late claims are dealt, none refused, under limits that round to the same, the used
 -- slots are the same
-pub late_order : {p : ℕ} {low high low' high' : (Option ℕ)} {cs ds : List Claim} {m m' : MemoryMap} {n n' : ℕ} {l l' : List ℕ} → Page p
+pub late_order : {p : ℕ} {low high low' high' : Option ℕ} {cs ds : List Claim} {m m' : MemoryMap} {n n' : ℕ} {l l' : List ℕ} → Page p
     → Dealt p low high cs m n l → Dealt p low' high' ds m' n' l' → SameLimits p low high low' high' → SameClaims cs ds
     → (n ≡ n') × (take (n + n) l ≡ take (n' + n') l')
 late_order {p} {low} {high} {low'} {high'} {cs} {ds} {m} {m'} {n} {n'} {l} {l'} g x y limits e =

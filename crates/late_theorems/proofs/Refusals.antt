@@ -1,7 +1,5 @@
 -- Each number of a late claim, exactly when: request L3 of document 02, "Refusals, in order: 1, 13 .., 14 .., 2, 3"; and that a refused one
 -- changes nothing. For every page size. Assumes nothing.
-use Rattle.late_claim.specs.declared.LateRefusal.TheVariants.{UnknownKind, NotLate, BadTable, MapFull, TooManyAreas}
-use Rattle.late_claim.specs.declared.LateRefusal.{LateRefusal}
 use Rattle.std.specs.Prelude.{Result, Ok, Err}
 use mathlib.Core.Path.{◌≡◌, refl, ap, subst}
 use mathlib.Core.Bool.{cond}
@@ -19,27 +17,30 @@ use Rattle.memory.specs.Map.{answer_number, registered}
 use Rattle.runs.specs.Refusals.{Kindless, Refused}
 use Rattle.runs.proofs.Refusals as runs
 use Rattle.areas.specs.Table.{slots_in}
-use Rattle.late_claim.specs.Late.{late_number, areas_left, After, unchanged, late_of}
+use Rattle.late_claim.specs.declared.LateRefusal.{LateRefusal}
+use Rattle.late_claim.specs.declared.LateRefusal.TheVariants.{UnknownKind, NotLate, BadTable, MapFull, TooManyAreas}
+use Rattle.late_claim.specs.Late.{late_refusal_number, late_number, areas_left, After, unchanged, late_of}
 use Rattle.late_claim.proofs.MadeLaws.{refused_unchanged}
 use Rattle.late_theorems.specs.Refusals.{late_gives, NullOrFree, LateKind, TableStands}
 use Rattle.late_theorems.proofs.Ways.{late_unknown, late_never, late_bad, late_full, late_many, late_entered, Way, unknown_kind, not_late, bad_table, map_full, too_many, done, late_way, unrefused}
 
 -- 1, 13, 14, 2 and 3 name their cases
+abbrev numbered : ℕ → LateRefusal
+numbered n = cond (eqb n 1) UnknownKind (cond (eqb n 13) NotLate (cond (eqb n 14) BadTable (cond (eqb n 2) MapFull TooManyAreas)))
+
+number_back : (r : LateRefusal) → numbered (late_refusal_number r) ≡ r
+number_back UnknownKind = refl
+number_back NotLate = refl
+number_back BadTable = refl
+number_back MapFull = refl
+number_back TooManyAreas = refl
+
 pub late_names : Names late_number
-late_names =
-    record {
-      back = λ n. cond (eqb n 1) (Err UnknownKind) (cond (eqb n 13) (Err NotLate) (cond (eqb n 14) (Err BadTable) (cond (eqb n 2) (Err MapFull) (Err TooManyAreas))));
-      named = each;
-    }
+late_names = record { back = λ n. Err (numbered n); named = each }
   where
-    each : (a : Result Unit LateRefusal) → (late_number a ≡ 0)
-        ⊎ (cond (eqb (late_number a) 1) (Err UnknownKind) (cond (eqb (late_number a) 13) (Err NotLate) (cond (eqb (late_number a) 14) (Err BadTable) (cond (eqb (late_number a) 2) (Err MapFull) (Err TooManyAreas)))) ≡ a)
+    each : (a : Result Unit LateRefusal) → (late_number a ≡ 0) ⊎ (Err (numbered (late_number a)) ≡ a)
     each (Ok tt) = inl refl
-    each (Err UnknownKind) = inr refl
-    each (Err NotLate) = inr refl
-    each (Err BadTable) = inr refl
-    each (Err MapFull) = inr refl
-    each (Err TooManyAreas) = inr refl
+    each (Err r) = inr (ap Err (number_back r))
 
 module _ (p : ℕ) (m : MemoryMap) (c : Claim) (n : ℕ) (l : List ℕ) where
   -- the reason for each answer, with what the map answers to the registration

@@ -1,7 +1,4 @@
 -- The ways that a late claim goes: what it comes to, whole, for each reason. For every page size. Assumes nothing.
-use Rattle.late_claim.specs.declared.LateRefusal.TheVariants.{UnknownKind, NotLate, BadTable, MapFull, TooManyAreas}
-use Rattle.memory.specs.declared.MapRefusal.{MapRefusal}
-use Rattle.entry.specs.declared.BootloaderMemoryKind.{BootloaderMemoryKind}
 use Rattle.std.specs.Prelude.{Option, Some, Result, Ok, Err}
 use mathlib.Core.Path.{◌≡◌, refl, ap, sym, ◌∙◌}
 use mathlib.Core.Bool.{Bool, true, false, true≢false}
@@ -12,11 +9,13 @@ use native.Mathlib.Omega.{arith}
 use lib.Dec.{eqb}
 use lib.ListN.{length}
 use borrow.Author.Tests.{eqb-true, eqb-false, le-leb, lt-leb}
+use Rattle.entry.specs.declared.BootloaderMemoryKind.{BootloaderMemoryKind}
 use Rattle.entry.specs.declared.BootloaderMemoryKind.TheVariants.{Null, Free}
 use Rattle.entry.specs.Kind.{number_of, IsKind, kind_of}
 use Rattle.entry.specs.declared.Claim.{Claim}
 use Rattle.entry.proofs.KindLaws.{Reads, known, unknown, reads, unknown_at, known_at}
 use Rattle.memory.specs.declared.MemoryMap.{MemoryMap}
+use Rattle.memory.specs.declared.MapRefusal.{MapRefusal}
 use Rattle.memory.specs.declared.MapRefusal.TheVariants as refusal
 use Rattle.memory.specs.Map.{answer_number, registered}
 use Rattle.memory.specs.Run.{is_done}
@@ -25,6 +24,7 @@ use Rattle.runs.proofs.Refusals as runs
 use Rattle.areas.specs.Table.{slots_in}
 use Rattle.areas.proofs.Lists.{le_or_lt}
 use Rattle.lent_table.specs.Table.{good_table}
+use Rattle.late_claim.specs.declared.LateRefusal.TheVariants.{UnknownKind, NotLate, BadTable, MapFull, TooManyAreas}
 use Rattle.late_claim.specs.Late.{late_number, areas_left, judged, entering, After, unchanged, entered, late_of}
 use Rattle.late_claim.proofs.Judging.{judged_unknown, judged_never, judged_bad, judged_done}
 use Rattle.late_claim.proofs.Claiming.{late_judged, late_refused, late_done}
@@ -73,14 +73,14 @@ map_done (Err refusal.MapFull) e = absurd (omega arith)
 
 full_is : (a : Result Unit MapRefusal) → answer_number a ≡ 2 → is_done a ≡ false
 full_is (Ok tt) e = absurd (omega arith)
-full_is (Err refusal.UnknownKind) e = absurd (omega arith)
-full_is (Err refusal.MapFull) e = refl
+full_is (Err r) e = refl
 
 -- a claim of a kind is answered 0 or 2 by the map
 zero_or_two : (p : ℕ) (m : MemoryMap) (c : Claim) → IsKind c.kind → (answer_number (registered p m c).answer ≡ 0) ⊎ (answer_number (registered p m c).answer ≡ 2)
 zero_or_two p m c k = go (registered p m c).answer refl
   where
-    go : (a : Result Unit MapRefusal) → (registered p m c).answer ≡ a → (answer_number (registered p m c).answer ≡ 0) ⊎ (answer_number (registered p m c).answer ≡ 2)
+    go : (a : Result Unit MapRefusal) → (registered p m c).answer ≡ a
+        → (answer_number (registered p m c).answer ≡ 0) ⊎ (answer_number (registered p m c).answer ≡ 2)
     go (Ok tt) e = inl (ap answer_number e)
     go (Err refusal.UnknownKind) e = absurd ((runs.number_1 p m c).0 (ap answer_number e) k)
     go (Err refusal.MapFull) e = inr (ap answer_number e)
@@ -132,7 +132,8 @@ pub data Way (p : ℕ) (m : MemoryMap) (c : Claim) (n : ℕ) (l : List ℕ) : Af
   not_late : NullOrFree c → Way p m c n l (unchanged m n l (Err NotLate))
   bad_table : LateKind c → (TableStands p n l → ⊥) → Way p m c n l (unchanged m n l (Err BadTable))
   map_full : LateKind c → TableStands p n l → answer_number (registered p m c).answer ≡ 2 → Way p m c n l (unchanged m n l (Err MapFull))
-  too_many : LateKind c → TableStands p n l → answer_number (registered p m c).answer ≡ 0 → slots_in l < length (areas_left p c n l) → Way p m c n l (unchanged m n l (Err TooManyAreas))
+  too_many : LateKind c → TableStands p n l → answer_number (registered p m c).answer ≡ 0 → slots_in l < length (areas_left p c n l)
+      → Way p m c n l (unchanged m n l (Err TooManyAreas))
   done : LateKind c → TableStands p n l → answer_number (registered p m c).answer ≡ 0 → length (areas_left p c n l) ≤ slots_in l → Way p m c n l (entered p m c n l)
 
 pub late_way : (p : ℕ) (m : MemoryMap) (c : Claim) (n : ℕ) (l : List ℕ) → Way p m c n l (late_of p m c n l)

@@ -1,9 +1,8 @@
 -- Where a table comes from: request L3 of document 02, "by a build or by earlier late claims".
-use Rattle.std.specs.Prelude.{◌≡◌, List, [], ◌∷◌, ◌++◌, ℕ, ◌≤◌, Option}
+use Rattle.std.specs.Prelude.{◌≡◌, List, [], ◌∷◌, ◌++◌, ℕ, ◌≤◌, Option, Ok}
 use Rattle.entry.specs.declared.Claim.{Claim}
 use Rattle.memory.specs.declared.MemoryMap.{MemoryMap}
 use Rattle.memory.specs.Made.{Made}
-use Rattle.areas.specs.declared.AreasRefusal.TheVariants as build
 use Rattle.areas.specs.Areas.{areas_of}
 use Rattle.areas.specs.Table.{slots_in, Builds}
 use Rattle.demand3.specs.Rule.{Accepted, map_after}

@@ -21,18 +21,15 @@ pub struct MemoryMap {
 // Why a registration is refused. Each case has its number in document 01.
 #[derive(Clone, Copy)]
 pub enum MapRefusal {
-    UnknownKind,
-    MapFull,
+    UnknownKind = 1,
+    MapFull = 2,
 }
 
 impl Numbered for MapRefusal {
     ghost number_of = { refusal_number };
 
     fn number(self) -> u8 {
-        match self {
-            MapRefusal::UnknownKind => 1,
-            MapRefusal::MapFull => 2,
-        }
+        self as u8
     }
 }
 

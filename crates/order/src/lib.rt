@@ -27,16 +27,14 @@ pub struct Order {
 // Why an order file is refused: it breaks its layout.
 #[derive(Clone, Copy)]
 pub enum OrderFault {
-    BadOrder,
+    BadOrder = 9,
 }
 
 impl Numbered for OrderFault {
     ghost number_of = { order_fault_number };
 
     fn number(self) -> u8 {
-        match self {
-            OrderFault::BadOrder => 9,
-        }
+        self as u8
     }
 }
 

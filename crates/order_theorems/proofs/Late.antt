@@ -1,7 +1,5 @@
 -- Demand 3 over an order file and the late claims behind it, as the program `late` makes them, up to the first refusal: request L3 of
 -- document 02. Assumes nothing.
-use Rattle.startup.specs.declared.Refusal.{Refusal}
-use Rattle.startup.specs.declared.Summary.{Summary}
 use Rattle.std.specs.Prelude.{Option, ℕ, Ok, Result, Err}
 use mathlib.Core.Path.{◌≡◌, refl, ap, sym, ◌∙◌}
 use mathlib.Core.Bool.{Bool, true, false}
@@ -16,7 +14,9 @@ use Rattle.demand3.specs.Rule.{map_after, SameClaims, SameLimits}
 use Rattle.demand3.specs.Slots.{number_slot, SlotsRight}
 use Rattle.sheet.specs.declared.PageSheet.{PageSheet}
 use Rattle.order.specs.Layout.{good_order, order_in, order_of}
+use Rattle.startup.specs.declared.Refusal.{Refusal}
 use Rattle.startup.specs.declared.Refusal.TheVariants.{BadOrder}
+use Rattle.startup.specs.declared.Summary.{Summary}
 use Rattle.startup.specs.Report.{report_of, slots_after, reported}
 use Rattle.startup.specs.Start.{kept_map, file_map, map_left}
 use Rattle.late_claim.specs.Late.{After, late_of}
@@ -40,7 +40,7 @@ record Deals (p : ℕ) (low high : Option ℕ) (cs ds : List Claim) (i : ℕ) (r
   index : i ≤ r.index
   dealt : Dealt p low high (cs ++ take (r.index - i) ds) r.map r.count r.table
 
-run_dealt : {p : ℕ} {low high : (Option ℕ)} {cs : List Claim} {m : MemoryMap} {n : ℕ} {l : List ℕ} → Dealt p low high cs m n l
+run_dealt : {p : ℕ} {low high : Option ℕ} {cs : List Claim} {m : MemoryMap} {n : ℕ} {l : List ℕ} → Dealt p low high cs m n l
     → (ds : List Claim) (i : ℕ) (r : Run) → r ≡ late_all p m n l i ds → Deals p low high cs ds i r
 run_dealt {p} {low} {high} {cs} {m} {n} {l} h [] i r e =
     let z : i - i ≡ 0 = omega arith in

@@ -1,5 +1,5 @@
 -- The page sheet of an order file: its counts from the registrations page by page, both below 2^52, and its share. Assumes nothing.
-use Rattle.std.specs.Prelude.{Option, ℕ}
+use Rattle.std.specs.Prelude.{Option, Some, None, ℕ}
 use mathlib.Core.Path.{◌≡◌, refl, ◌∙◌}
 use mathlib.Core.Bool.{Bool, true, false, cond, ◌&&◌}
 use mathlib.Core.List.{List, map}
@@ -24,7 +24,6 @@ use Rattle.areas.proofs.Those.{every_those}
 use Rattle.areas.proofs.MadeLaws.{held_sound, free_lies, areas_of_ascends, areas_of_listed, areas_of_pages}
 use Rattle.demand3.specs.Rule.{map_after}
 use Rattle.demand3.proofs.Demand.{after_made}
-use Rattle.sheet.specs.declared.Share.TheVariants.{NoFree, Of}
 use Rattle.sheet.specs.declared.PageSheet.{PageSheet}
 use Rattle.sheet.specs.Share.{share_of}
 use Rattle.sheet.specs.Sheet.{free_pages, usable_in, sheet_of, map_sheet}
@@ -145,9 +144,9 @@ module _ (p : ℕ) (g : Page p) (large : 4096 ≤ p) (s l : List ℕ) (n : ℕ) 
       (free_few g large made (order_in s).low (order_in s).high, usable_few g large made (order_in s).low (order_in s).high)
 
   -- "none when no page is Free, positive zero when pages are Free and none is usable", and else "one division, rounded once"
-  pub file_share : (sheet.free ≡ 0 → sheet.share ≡ NoFree)
-      × (0 < sheet.free → sheet.usable ≡ 0 → sheet.share ≡ Of plus_zero)
-      × (0 < sheet.usable → (x : Float) × (sheet.share ≡ Of x) × Nearest binary64 sheet.usable sheet.free x)
+  pub file_share : (sheet.free ≡ 0 → sheet.share ≡ None)
+      × (0 < sheet.free → sheet.usable ≡ 0 → sheet.share ≡ Some plus_zero)
+      × (0 < sheet.usable → (x : Float) × (sheet.share ≡ Some x) × Nearest binary64 sheet.usable sheet.free x)
   file_share = (
     λ f. share_is ∙ rw f (share_none sheet.usable),
     λ f u. share_is ∙ rw u (share_zero sheet.free f file_few.0),

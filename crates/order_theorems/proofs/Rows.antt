@@ -1,9 +1,6 @@
 -- The table of document 01, "Numbers a caller gets back", over whole order files: every number is given exactly when its row says so and
 -- no row above it does; a refused build writes nothing, and a finished one its areas. Assumes nothing.
-use Rattle.startup.specs.declared.Summary.{Summary}
-use Rattle.memory.specs.declared.MapRefusal.TheVariants.{UnknownKind as RunUnknown, MapFull as RunFull}
-use Rattle.memory.specs.declared.MapRefusal.{MapRefusal}
-use Rattle.std.specs.Prelude.{Result, Ok, Err}
+use Rattle.std.specs.Prelude.{Option, Some, None, Result, Ok, Err}
 use mathlib.Core.Path.{◌≡◌, refl, sym, ◌∙◌, ap, subst}
 use mathlib.Core.Logic.{◌↔◌, ◌⊎◌, inl, inr, ⊎_elim}
 use mathlib.Core.Bool.{Bool, true, false, cond}
@@ -19,6 +16,8 @@ use Rattle.numbers.proofs.Given.{given}
 use Rattle.words.proofs.BytesLaws.{never}
 use Rattle.page.specs.Round.{Page}
 use Rattle.entry.specs.Kind.{kind_of}
+use Rattle.memory.specs.declared.MapRefusal.{MapRefusal}
+use Rattle.memory.specs.declared.MapRefusal.TheVariants.{UnknownKind as RunUnknown, MapFull as RunFull}
 use Rattle.memory.specs.declared.Registered.{Registered}
 use Rattle.memory.specs.Map.{blank}
 use Rattle.memory.specs.Run.{is_done}
@@ -33,12 +32,13 @@ use Rattle.demand3.specs.Rule.{Accepted, map_after}
 use Rattle.demand3.proofs.Demand.{after_made}
 use Rattle.sheet.specs.declared.PageSheet.{PageSheet}
 use Rattle.sheet.specs.Sheet.{map_sheet}
-use Rattle.fdt.specs.declared.Opened.{Opened}
-use Rattle.fdt.specs.declared.Opened.TheVariants.{NoTree, Tree, BadHeader as NoHeader, OverLimit as Over, BadStructure as NoStructure}
+use Rattle.fdt.specs.declared.Blocks.{Blocks}
+use Rattle.fdt.specs.declared.TreeFault.{TreeFault}
+use Rattle.fdt.specs.declared.TreeFault.TheVariants.{BadHeader as NoHeader, OverLimit as Over, BadStructure as NoStructure}
 use Rattle.fdt.specs.Opening.{opened_of}
 use Rattle.grammar.proofs.OpeningLaws.{bad_header_exactly, over_exactly, bad_structure_exactly, opened_exactly, opened_blocks}
-use Rattle.claims.specs.declared.Judged.{Judged}
-use Rattle.claims.specs.declared.Judged.TheVariants.{Sound, UnreadableReg as NoReg, UnreadableRanges as NoRanges}
+use Rattle.claims.specs.declared.ValueFault.{ValueFault}
+use Rattle.claims.specs.declared.ValueFault.TheVariants.{UnreadableReg as NoReg, UnreadableRanges as NoRanges}
 use Rattle.claims.specs.Judging.{judged_of}
 use Rattle.order.specs.declared.Order.{Order}
 use Rattle.order.specs.Layout.{GoodOrder, good_order, order_in, order_of}
@@ -47,6 +47,7 @@ use Rattle.tree_theorems.proofs.ClaimKinds.{claims_known}
 use Rattle.tree_theorems.proofs.Judging.{judged_7, judged_8, judged_0}
 use Rattle.startup.specs.declared.Refusal.{Refusal}
 use Rattle.startup.specs.declared.Refusal.TheVariants.{BadOrder, UnknownKind, BadHeader, OverLimit, BadStructure, UnreadableReg, UnreadableRanges, MapFull, TooManyAreas}
+use Rattle.startup.specs.declared.Summary.{Summary}
 use Rattle.startup.specs.Sources.{list_in, claims_by, tree_claims, pair_claims, registrations}
 use Rattle.startup.specs.Verdict.{refusal_number, verdict_number, first_of, list_verdict, judged_verdict, opened_verdict, tree_verdict, map_verdict, run_of, verdict_of}
 use Rattle.startup.specs.Report.{report_number, finished, verdict_report, verdict_slots, read_report, read_slots, report_of, slots_after, reported}
@@ -115,12 +116,10 @@ report_names = record { back = λ n. Err (numbered n); named = each }
     each (Err r) = inr (ap Err (number_of r).0)
 
 -- ── The kinds of a file's registrations ──
-opened_known : (t : List ℕ) (arm : Bool) (x : Opened) → Kinds (claims_by t arm x)
-opened_known t arm (Tree k) = claims_known arm _ _
-opened_known t arm NoTree = λ c m. absurd (Memᴰ.not-nil m)
-opened_known t arm NoHeader = λ c m. absurd (Memᴰ.not-nil m)
-opened_known t arm Over = λ c m. absurd (Memᴰ.not-nil m)
-opened_known t arm NoStructure = λ c m. absurd (Memᴰ.not-nil m)
+opened_known : (t : List ℕ) (arm : Bool) (x : Result (Option Blocks) TreeFault) → Kinds (claims_by t arm x)
+opened_known t arm (Ok (Some k)) = claims_known arm _ _
+opened_known t arm (Ok None) = λ c m. absurd (Memᴰ.not-nil m)
+opened_known t arm (Err f) = λ c m. absurd (Memᴰ.not-nil m)
 
 tree_known : (t : List ℕ) (arm : Bool) → Kinds (tree_claims t arm)
 unfolding tree_claims
@@ -225,40 +224,45 @@ module _ (p : ℕ) (s l : List ℕ) where
   by_judging : Kinds (claims (list_in s o)) → HasTree s → Clear 5 → UnderTree (judged_verdict (judged_of o.arm (file_root s)))
   by_judging k t c5 = go (judged_of o.arm (file_root s)) refl
     where
-      go : (j : Judged) → judged_of o.arm (file_root s) ≡ j → UnderTree (judged_verdict j)
-      go NoReg e = due UnreadableReg c5 (λ g. (t, (judged_7 o.arm (file_root s)).0 e))
-      go NoRanges e =
+      go : (j : Result Unit ValueFault) → judged_of o.arm (file_root s) ≡ j → UnderTree (judged_verdict j)
+      go (Err NoReg) e = due UnreadableReg c5 (λ g. (t, (judged_7 o.arm (file_root s)).0 e))
+      go (Err NoRanges) e =
           let w = (judged_8 o.arm (file_root s)).0 e in
           due UnreadableRanges (next UnreadableReg c5 (λ g x. w.0 x.1)) (λ g. (t, w.1))
-      go Sound e =
+      go (Ok tt) e =
           let w = (judged_0 o.arm (file_root s)).0 e in
           by_map k (next UnreadableRanges (next UnreadableReg c5 (λ g x. w.0 x.1)) (λ g x. w.1 x.1))
 
   -- 4, 6 and 5
-  module _ (x : Opened) (e : opened_of (file_tree s) ≡ x) where
+  module _ (x : Result (Option Blocks) TreeFault) (e : opened_of (file_tree s) ≡ x) where
     -- the rows that another answer leaves out
-    no_4 : (x ≡ NoHeader → ⊥) → Clear 2 → Clear 3
+    no_4 : (x ≡ Err NoHeader → ⊥) → Clear 2 → Clear 3
     no_4 f c = next BadHeader c (λ g w. f (sym e ∙ (bad_header_exactly (file_tree s)).1 w))
 
-    no_6 : (x ≡ Over → ⊥) → Clear 3 → Clear 4
+    no_6 : (x ≡ Err Over → ⊥) → Clear 3 → Clear 4
     no_6 f c = next OverLimit c (λ g w. f (sym e ∙ (over_exactly (file_tree s)).1 w))
 
-    no_5 : (x ≡ NoStructure → ⊥) → Clear 4 → Clear 5
+    no_5 : (x ≡ Err NoStructure → ⊥) → Clear 4 → Clear 5
     no_5 f c = next BadStructure c (λ g w. f (sym e ∙ (bad_structure_exactly (file_tree s)).1 w))
 
-  by_opening : Kinds (claims (list_in s o)) → Clear 2 → (x : Opened) → opened_of (file_tree s) ≡ x → UnderTree (opened_verdict (file_tree s) o.arm x)
-  by_opening k c2 NoHeader e = due BadHeader c2 (λ g. (bad_header_exactly (file_tree s)).0 e)
-  by_opening k c2 Over e = due OverLimit (no_4 Over e (λ h. never (cc)) c2) (λ g. (over_exactly (file_tree s)).0 e)
-  by_opening k c2 NoStructure e =
-      due BadStructure (no_6 NoStructure e (λ h. never (cc)) (no_4 NoStructure e (λ h. never (cc)) c2)) (λ g. (bad_structure_exactly (file_tree s)).0 e)
-  by_opening k c2 NoTree e =
-      let c5 = no_5 NoTree e (λ h. never (cc)) (no_6 NoTree e (λ h. never (cc)) (no_4 NoTree e (λ h. never (cc)) c2)) in
+  -- none of the three, of no tree and of one that is opened
+  no_fault : (b : Option Blocks) → opened_of (file_tree s) ≡ Ok b → Clear 2 → Clear 5
+  no_fault b e c = no_5 (Ok b) e (λ h. never (cc)) (no_6 (Ok b) e (λ h. never (cc)) (no_4 (Ok b) e (λ h. never (cc)) c))
+
+  by_opening : Kinds (claims (list_in s o)) → Clear 2 → (x : Result (Option Blocks) TreeFault) → opened_of (file_tree s) ≡ x
+      → UnderTree (opened_verdict (file_tree s) o.arm x)
+  by_opening k c2 (Err NoHeader) e = due BadHeader c2 (λ g. (bad_header_exactly (file_tree s)).0 e)
+  by_opening k c2 (Err Over) e = due OverLimit (no_4 (Err Over) e (λ h. never (cc)) c2) (λ g. (over_exactly (file_tree s)).0 e)
+  by_opening k c2 (Err NoStructure) e =
+      due BadStructure (no_6 (Err NoStructure) e (λ h. never (cc)) (no_4 (Err NoStructure) e (λ h. never (cc)) c2))
+      (λ g. (bad_structure_exactly (file_tree s)).0 e)
+  by_opening k c2 (Ok None) e =
       let no_tree : HasTree s → ⊥ = λ w. let h = (opened_exactly (file_tree s)).1 w in never (cc) in
-      let c6 : Clear 6 = next UnreadableReg c5 (λ g w. no_tree w.0) in
+      let c6 : Clear 6 = next UnreadableReg (no_fault None e c2) (λ g w. no_tree w.0) in
       by_map k (next UnreadableRanges c6 (λ g w. no_tree w.0))
-  by_opening k c2 (Tree b) e =
-      by_judging k ((opened_exactly (file_tree s)).0 (e ∙ ap Tree (opened_blocks (file_tree s) b e)))
-      (no_5 (Tree b) e (λ h. never (cc)) (no_6 (Tree b) e (λ h. never (cc)) (no_4 (Tree b) e (λ h. never (cc)) c2)))
+  by_opening k c2 (Ok (Some b)) e =
+      by_judging k ((opened_exactly (file_tree s)).0 (e ∙ ap (λ (y : Blocks). Ok (Some y)) (opened_blocks (file_tree s) b e)))
+      (no_fault (Some b) e c2)
 
   -- 1
   by_list : Clear 1 → Under (verdict_of p s o)
@@ -359,7 +363,8 @@ module _ (p : ℕ) (s l : List ℕ) where
     λ d. go d.0 d.1 d.2 (report_of p s l) refl,
   )
     where
-      go : ((q : Refusal) → Row p s l q → ⊥) → n ≡ length (file_areas p s) → sheet ≡ file_sheet → (x : Result Summary Refusal) → report_of p s l ≡ x → report_of p s l ≡ reported n sheet
+      go : ((q : Refusal) → Row p s l q → ⊥) → n ≡ length (file_areas p s) → sheet ≡ file_sheet → (x : Result Summary Refusal)
+          → report_of p s l ≡ x → report_of p s l ≡ reported n sheet
       go f a b (Err q) e = absurd (f q ((says_of (Err q) e).0 g).0)
       go f a b (Ok x) e = let w = says_of (Ok x) e in rw (a, b, ← w.count, ← w.pages) e
 

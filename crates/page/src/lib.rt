@@ -15,14 +15,11 @@ pub fn align_down(x: u64) -> u64
 }
 
 // Where a range ends: base + size, or the largest address where that does not fit.
+#[tactic(auto, unfolding(crate::specs::Round::ending))]
 pub fn saturating_add(base: u64, size: u64) -> u64
     ensures { result ≡ ending base size }
 {
-    if size <= 0xffff_ffff_ffff_ffff - base {
-        base + size
-    } else {
-        0xffff_ffff_ffff_ffff
-    }
+    base.saturating_add(size)
 }
 
 // The least multiple of the page size that is not below x, but the last page's start for every x above it.

@@ -1,11 +1,11 @@
 -- The whole of a program: what it read is what its reader had, as far as it reads, and what it wrote is the text of that. Assumes nothing.
+use Rattle.std.specs.Prelude.{Result, Ok}
 use Rattle.std.proofs.Common.{◌≡◌, ℕ, ◌≤◌, ◌<◌, List, [], ◌++◌, arith, length, take, sym, ap, ◌∙◌, subst, lt_of_not-le, take_all, length-take-le}
 use Rattle.std.proofs.lemmas.List.{take-append-le, append-nil}
 use Rattle.std.specs.Prelude.{Option, None, Some}
 use Rattle.std.specs.Io.KnownBytes.{Consumes, IsAtEnd, Appends}
 use native.Mathlib.Decide.{dec_le}
-use Rattle.standard.specs.declared.Ending.{Ending}
-use Rattle.standard.specs.declared.Ending.TheVariants.{Written}
+use Rattle.standard.specs.declared.Failure.{Failure}
 use Rattle.report_text.specs.Text.{report_text}
 use Rattle.report_text.specs.LateText.{late_text}
 use Rattle.report_text.specs.Writing.{Writes}
@@ -34,9 +34,9 @@ module _ (space s rest : List ℕ) (n : ℕ) (lost : s ≡ take n space ++ rest)
 
 -- `report`: from what reading and writing ensure
 pub reported :
-    (known after old new : Option (List ℕ)) (space buffer out : List ℕ) (n k : ℕ) (r : Ending) → length space ≡ 65537
+    (known after old new : Option (List ℕ)) (space buffer out : List ℕ) (n k : ℕ) (r : Result Unit Failure) → length space ≡ 65537
     → n ≤ length space → Consumes known after (take n space) × (n < length space → IsAtEnd after)
-    → Writes buffer 0 (report_text 4096 (take n space) lent_slots) out k → (r ≡ Written → Appends old new (take k out)) → Reports known old new r
+    → Writes buffer 0 (report_text 4096 (take n space) lent_slots) out k → (r ≡ Ok tt → Appends old new (take k out)) → Reports known old new r
 reported None after old new space buffer out n k r long within reads text writes = tt
 reported (Some s) None old new space buffer out n k r long within reads text writes = absurd reads.0
 reported (Some s) (Some rest) old new space buffer out n k r long within reads text writes =
@@ -48,9 +48,9 @@ reported (Some s) (Some rest) old new space buffer out n k r long within reads t
 
 -- the same for `late`, which takes less than it has room for
 pub reported_late :
-    (known after old new : Option (List ℕ)) (space buffer out : List ℕ) (n k : ℕ) (r : Ending) → n < length space → n ≤ 262144
+    (known after old new : Option (List ℕ)) (space buffer out : List ℕ) (n k : ℕ) (r : Result Unit Failure) → n < length space → n ≤ 262144
     → Consumes known after (take n space) × (n < length space → IsAtEnd after)
-    → Writes buffer 0 (late_text 4096 (take n space) lent_slots) out k → (r ≡ Written → Appends old new (take k out)) → ReportsLate known old new r
+    → Writes buffer 0 (late_text 4096 (take n space) lent_slots) out k → (r ≡ Ok tt → Appends old new (take k out)) → ReportsLate known old new r
 reported_late None after old new space buffer out n k r room few reads text writes = tt
 reported_late (Some s) None old new space buffer out n k r room few reads text writes = absurd reads.0
 reported_late (Some s) (Some rest) old new space buffer out n k r room few reads text writes =
@@ -62,7 +62,7 @@ reported_late (Some s) (Some rest) old new space buffer out n k r room few reads
 
 -- and of more than it takes it does nothing
 pub refused_long :
-    (known after : Option (List ℕ)) (space : List ℕ) (n : ℕ) (r : Ending) → n < length space → n ≤ 262144
+    (known after : Option (List ℕ)) (space : List ℕ) (n : ℕ) (r : Result Unit Failure) → n < length space → n ≤ 262144
     → Consumes known after (take n space) × (n < length space → IsAtEnd after) → RefusesLong known r
 refused_long None after space n r room few reads = tt
 refused_long (Some s) None space n r room few reads = absurd reads.0

@@ -5,12 +5,12 @@ ghost use Rattle.std.specs.Prelude.{◌≤◌};
 
 use std::io::{Stderr, Stdin, Stdout};
 
-// `program::report` with its exit status, which is one of those of `Ending::status`.
+// `program::report` with its exit status, which is one of those of `standard::status`.
 #[unsafe(no_mangle)]
 pub extern "C" fn wharfthrum_program(mut input: Stdin, mut output: Stdout, told: Stderr) -> u8
     ensures { result ≤ 2 }
 {
-    program::report(&mut input, &mut output, &told).status()
+    standard::status(program::report(&mut input, &mut output, &told))
 }
 
 // The same for `program::late`.
@@ -18,5 +18,5 @@ pub extern "C" fn wharfthrum_program(mut input: Stdin, mut output: Stdout, told:
 pub extern "C" fn wharfthrum_late_program(mut input: Stdin, mut output: Stdout, told: Stderr) -> u8
     ensures { result ≤ 2 }
 {
-    program::late(&mut input, &mut output, &told).status()
+    standard::status(program::late(&mut input, &mut output, &told))
 }

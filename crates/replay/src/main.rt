@@ -5,10 +5,11 @@
 ghost use Rattle.std.specs.Prelude.{◌≤◌, ◌≡◌, length};
 ghost use Rattle.memory.specs.Made.{Made};
 
-use areas::{Built, Limit};
-use entry::FoundEntry;
+use areas::AreasRefusal;
+use entry::MemoryEntry;
 use memory::{MemoryMap, Registered};
-use std::io::{Read, Result};
+use numbers::Numbered;
+use std::io::{self, Read};
 use stream::Tally;
 
 // The bytes that are held of the stream. A case takes less than half of them.
@@ -34,12 +35,6 @@ struct Parts {
     identity_mapped: usize,
     kernel: usize,
     end: usize,
-}
-
-#[derive(Clone, Copy)]
-struct Run {
-    map: MemoryMap,
-    same: bool,
 }
 
 // The place after a map: its count, and its entries.
@@ -114,25 +109,19 @@ fn register_at(buf: &[u8], at: usize, map: MemoryMap) -> Registered
     map.register(base, size, kind)
 }
 
-// Makes the registrations from number `from` up to `to` one by one, and compares each answer.
-fn register_each(buf: &[u8], p: Parts, map: MemoryMap, from: u64, to: u64) -> Run
-    requires { Made 4096 map }
-    ensures { Made 4096 result.map }
+// Makes the registrations from number `from` up to `to` one by one in a lent map, up to the first whose answer differs. Whether none does.
+fn register_each(buf: &[u8], p: Parts, map: &mut MemoryMap, from: u64, to: u64) -> bool
+    requires { Made 4096 map.old }
+    ensures { Made 4096 map.new }
 {
-    let mut held = map;
-    let mut same = true;
-    let mut i = from;
-    while i < to {
-        let r = register_at(buf, stream::past_threes(buf, p.claims, i), held);
-        let answer = r.answer;
-        if stream::wide(answer.number()) != stream::nth(buf, p.answers, i) {
-            same = false;
+    for i in from..to {
+        let r = register_at(buf, stream::past_threes(buf, p.claims, i), *map);
+        *map = r.map;
+        if stream::wide(r.answer.number()) != stream::nth(buf, p.answers, i) {
+            return false;
         }
-        let next = r.map;
-        held = next;
-        i += 1;
     }
-    Run { map: held, same }
+    true
 }
 
 fn least(a: usize, b: usize) -> usize
@@ -153,6 +142,11 @@ fn register_list(buf: &[u8], p: Parts, map: MemoryMap, from: u64, to: u64, tail:
     bootloader::register_bootloader_areas(map, &buf[start..end])
 }
 
+// Whether an entry is the one that stands at a place.
+fn is_entry(buf: &[u8], at: usize, entry: MemoryEntry) -> bool {
+    stream::is_three(buf, at, entry.start, entry.end, entry.kind)
+}
+
 // Whether a map holds the entries that stand at a place, in their order.
 fn same_map(buf: &[u8], at: usize, map: MemoryMap) -> bool {
     let n = map.size;
@@ -162,22 +156,17 @@ fn same_map(buf: &[u8], at: usize, map: MemoryMap) -> bool {
     if 512 < n {
         return false;
     }
-    let mut i: usize = 0;
-    while i < n {
-        let entry = stream::past_threes(buf, stream::past(buf, at, 1), i as u64);
-        if !stream::is_three(buf, entry, map.starts[i], map.ends[i], map.kinds[i]) {
+    for (i, entry) in map.entries[..n].iter().enumerate() {
+        let there = stream::past_threes(buf, stream::past(buf, at, 1), i as u64);
+        if !is_entry(buf, there, *entry) {
             return false;
         }
-        i += 1;
     }
     true
 }
 
-fn limit(flag: u64, at: u64) -> Limit {
-    if flag == 0 {
-        return Limit::Missing;
-    }
-    Limit::At(at)
+fn limit(flag: u64, at: u64) -> Option<u64> {
+    if flag == 0 { None } else { Some(at) }
 }
 
 // The numbers that a build is lent, each of another value.
@@ -185,10 +174,8 @@ fn untouched() -> [u64; SLOTS]
     ensures { 2048 ≡ length result }
 {
     let mut slots = [0u64; SLOTS];
-    let mut i: usize = 0;
-    while i < SLOTS {
-        slots[i] = 0xa5a5_a5a5_a5a5_0000 + i as u64;
-        i += 1;
+    for (i, slot) in slots.iter_mut().enumerate() {
+        *slot = 0xa5a5_a5a5_a5a5_0000 + i as u64;
     }
     slots
 }
@@ -198,29 +185,26 @@ fn same_slots(buf: &[u8], at: usize, slots: &[u64; SLOTS], len: usize) -> bool {
     if SLOTS < len {
         return false;
     }
-    let mut i: usize = 0;
-    while i < len {
-        if slots[i] != stream::nth(buf, at, i as u64) {
+    for (i, slot) in slots[..len].iter().enumerate() {
+        if *slot != stream::nth(buf, at, i as u64) {
             return false;
         }
-        i += 1;
     }
     true
 }
 
-fn count(built: Built) -> u64 {
-    match built {
-        Built::Done(n) => n as u64,
-        Built::TooManyAreas => 0,
-    }
-}
-
 // Builds into the first `len` numbers.
-fn build(map: MemoryMap, low: Limit, high: Limit, slots: &mut [u64], len: usize) -> Built
+fn build(
+    map: MemoryMap,
+    low: Option<u64>,
+    high: Option<u64>,
+    slots: &mut [u64],
+    len: usize,
+) -> Result<usize, AreasRefusal>
     requires { Made 4096 map }
 {
     let n = least(len, slots.len());
-    areas::build(map, low, high, &mut slots[0..n])
+    areas::build(map, low, high, &mut slots[..n])
 }
 
 // Builds the areas of a map, and answers the part that differs.
@@ -235,7 +219,7 @@ fn replay_build(buf: &[u8], at: usize, p: Parts, map: MemoryMap) -> u64
     if stream::wide(built.number()) != stream::word(buf, p.built) {
         return 6;
     }
-    if count(built) != stream::nth(buf, p.built, 1) {
+    if built.unwrap_or(0) as u64 != stream::nth(buf, p.built, 1) {
         return 6;
     }
     if same_slots(buf, stream::past(buf, p.built, 2), &slots, len) {
@@ -245,21 +229,12 @@ fn replay_build(buf: &[u8], at: usize, p: Parts, map: MemoryMap) -> u64
 }
 
 // Whether an entry, or none, stands at a place.
-fn same_entry(buf: &[u8], at: usize, found: FoundEntry) -> bool {
+fn same_entry(buf: &[u8], at: usize, found: Option<MemoryEntry>) -> bool {
     match found {
-        FoundEntry::Entry(entry) => {
-            if stream::word(buf, at) != 1 {
-                return false;
-            }
-            stream::is_three(
-                buf,
-                stream::past(buf, at, 1),
-                entry.start,
-                entry.end,
-                entry.kind,
-            )
+        Some(entry) => {
+            stream::word(buf, at) == 1 && is_entry(buf, stream::past(buf, at, 1), entry)
         }
-        FoundEntry::Nothing => stream::word(buf, at) == 0,
+        None => stream::word(buf, at) == 0,
     }
 }
 
@@ -288,26 +263,22 @@ fn same_listings(buf: &[u8], p: Parts, map: MemoryMap) -> bool
 fn replay_case(buf: &[u8], at: usize, p: Parts) -> u64 {
     let n = stream::word(buf, at);
     let k = stream::nth(buf, at, 1);
-    let first = register_each(buf, p, start(), 0, k);
-    let held = first.map;
-    let rest = register_each(buf, p, held, k, n);
-    let all = rest.map;
-    if !first.same {
+    let mut held = start();
+    if !register_each(buf, p, &mut held, 0, k) {
         return 1;
     }
-    if !rest.same {
+    let mut all = held;
+    if !register_each(buf, p, &mut all, k, n) {
         return 1;
     }
     let listed = register_list(buf, p, held, k, n, stream::nth(buf, at, 2));
-    let answer = listed.answer;
-    if stream::wide(answer.number()) != stream::word(buf, p.listed) {
+    if stream::wide(listed.answer.number()) != stream::word(buf, p.listed) {
         return 2;
     }
     if !same_map(buf, p.first, held) {
         return 3;
     }
-    let after = listed.map;
-    if !same_map(buf, p.list, after) {
+    if !same_map(buf, p.list, listed.map) {
         return 4;
     }
     if !same_map(buf, p.all, all) {
@@ -323,15 +294,12 @@ fn replay_case(buf: &[u8], at: usize, p: Parts) -> u64 {
     8
 }
 
-// Replays case after case. A proved loop has to end, and nothing says that a stream does, so it counts its turns
-// down, from a number that no run uses up.
+// Replays case after case. A proved loop has to end, and nothing says that a stream does, so its turns are as many as no run uses up.
 fn replay<R: Read, E: Eprint>(input: &mut R, told: &E, buf: &mut [u8; SPACE]) -> Tally {
     let mut tally = stream::fresh();
     let mut have = stream::refill(input, told, buf, 0, 0);
     let mut at: usize = 0;
-    let mut turns = u64::MAX;
-    while 0 < turns {
-        turns -= 1;
+    for _ in 0..u64::MAX {
         if SPACE / 2 < at {
             have = stream::refill(input, told, buf, at, have);
             at = 0;
@@ -350,7 +318,7 @@ fn replay<R: Read, E: Eprint>(input: &mut R, told: &E, buf: &mut [u8; SPACE]) ->
     tally
 }
 
-fn main(rt: HostRuntime) -> Result<()> {
+fn main(rt: HostRuntime) -> io::Result<()> {
     let mut buf = [0u8; SPACE];
     let tally = replay(&mut rt.stdin(), &rt, &mut buf);
     stream::report(&rt, tally, b"case")

@@ -71,7 +71,8 @@ pub fn reserved_memory_node_is_available<'a>(tree: Tree<'a>, node: usize) -> boo
     }
 }
 
-// The one region that a dynamic reservation can only be, where its `alloc-ranges` leave it no choice. Both values are read by /reserved-memory's own cells.
+// The one region that a dynamic reservation can only be, where its `alloc-ranges` leave it no choice. Both values are read by
+// /reserved-memory's own cells.
 pub fn visit_exact_dynamic_reserved_memory_range<'a>(
     size: &'a [u8],
     ranges: &'a [u8],

@@ -22,32 +22,22 @@ use sheet::PageSheet;
 // Why an order file is refused, in the order in which this is checked. Each case has its number in document 01.
 #[derive(Clone, Copy)]
 pub enum Refusal {
-    BadOrder,
-    UnknownKind,
-    BadHeader,
-    OverLimit,
-    BadStructure,
-    UnreadableReg,
-    UnreadableRanges,
-    MapFull,
-    TooManyAreas,
+    BadOrder = 9,
+    UnknownKind = 1,
+    BadHeader = 4,
+    OverLimit = 6,
+    BadStructure = 5,
+    UnreadableReg = 7,
+    UnreadableRanges = 8,
+    MapFull = 2,
+    TooManyAreas = 3,
 }
 
 impl Numbered for Refusal {
     ghost number_of = { refusal_number };
 
     fn number(self) -> u8 {
-        match self {
-            Refusal::BadOrder => 9,
-            Refusal::UnknownKind => 1,
-            Refusal::BadHeader => 4,
-            Refusal::OverLimit => 6,
-            Refusal::BadStructure => 5,
-            Refusal::UnreadableReg => 7,
-            Refusal::UnreadableRanges => 8,
-            Refusal::MapFull => 2,
-            Refusal::TooManyAreas => 3,
-        }
+        self as u8
     }
 }
 

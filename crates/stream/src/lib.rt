@@ -6,7 +6,6 @@
 ghost use Rattle.std.specs.Prelude.{◌≡◌, ◌+◌, ◌*◌, ◌<◌};
 ghost use Rattle.stream.specs.Cases.{NumberAt, Three, Tells, Ahead, none, and_case};
 
-use standard::Input;
 use std::io::{Read, Result};
 
 // How many cases there were, how many of them differ, and the first that does, counted from 0, with its part. `cut` says
@@ -92,7 +91,7 @@ fn fill<R: Read, E: Eprint>(input: &mut R, told: &E, space: &mut [u8], have: usi
     if space.len() <= have {
         return have;
     }
-    let Input::Held(more) = standard::read_all(input, told, &mut space[have..]) else {
+    let Ok(more) = standard::read_all(input, told, &mut space[have..]) else {
         return have;
     };
     have + more

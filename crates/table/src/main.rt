@@ -5,8 +5,8 @@
 ghost use Rattle.std.specs.Prelude.{◌≡◌, ◌≤◌, length};
 ghost use Rattle.memory.specs.Made.{Made};
 
-use areas::{Built, Limit};
-use memory::{Answer, MemoryMap, Registered};
+use memory::{MemoryMap, Registered};
+use numbers::Numbered;
 use standard::Input;
 use std::io;
 use std::process::ExitCode;
@@ -36,15 +36,13 @@ fn registered(list: &[u8]) -> Registered
 // What becomes of a list: its areas, or the number of the refusal.
 fn print_list<P: Print>(out: &P, list: &[u8]) -> io::Result<()> {
     let r = registered(list);
-    let answer = r.answer;
-    let Answer::Done = answer else {
-        return print_refusal(out, answer.number());
-    };
+    if let Err(refusal) = r.answer {
+        return print_refusal(out, refusal.number());
+    }
     let mut slots = [0u64; 1024];
-    let built = areas::build(r.map, Limit::Missing, Limit::Missing, &mut slots);
-    match built {
-        Built::Done(count) => print_areas(out, &slots, count),
-        Built::TooManyAreas => print_refusal(out, built.number()),
+    match areas::build(r.map, None, None, &mut slots) {
+        Ok(count) => print_areas(out, &slots, count),
+        Err(refusal) => print_refusal(out, refusal.number()),
     }
 }
 

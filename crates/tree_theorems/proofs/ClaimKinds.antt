@@ -1,10 +1,10 @@
 -- Every claim of a tree has a kind: Reserved or Device. So a run of its claims is refused for want of a slot or not at all. Assumes nothing.
+use Rattle.std.specs.Prelude.{Option, Some, None}
 use mathlib.Core.Path.{refl}
 use mathlib.Core.Logic.{⊎_elim}
 use mathlib.Core.Bool.{Bool, cond, ◌||◌}
 use mathlib.Core.List.Memᴰ
 use mathlib.Core.List.{List, [], ◌∷◌, ◌++◌}
-use mathlib.Core.Option.{Option, some, none as nothing}
 use Prim.Native.Nat.{ℕ, ◌+◌, ◌^◌}
 use lib.Dec.{eqb, leb}
 use Rattle.words.proofs.BytesLaws.{cond_elim}
@@ -24,8 +24,6 @@ use Rattle.runs.specs.Refusals.{Kinds}
 use Rattle.subtree.specs.Names.{ranges_name, soc_name, reserved_memory_name}
 use Rattle.subtree.specs.Subtree.{props_of, under_root}
 use Rattle.reserved.specs.Reserved.{children_count}
-use Rattle.stdout.specs.declared.Uart.{Uart}
-use Rattle.stdout.specs.declared.Uart.TheVariants.{Range as UartRange, NoUart}
 use Rattle.stdout.specs.Stdout.{uart_of}
 use Rattle.claims.specs.declared.Way.{Way}
 use Rattle.claims.specs.declared.Way.TheVariants.{Reserve, Soc, Controllers}
@@ -50,17 +48,17 @@ either P t x y f g = cond_elim P t x y (λ e. f) (λ e. g)
 
 -- a claim that may be none
 abbrev KindIn : Option Claim → Type 0
-KindIn nothing = Unit {0}
-KindIn (some c) = IsKind c.kind
+KindIn None = Unit {0}
+KindIn (Some c) = IsKind c.kind
 
 kinds_then : (o : Option Claim) (cs : List Claim) → KindIn o → Kinds cs → Kinds (and_then o cs)
-kinds_then nothing cs i f = f
-kinds_then (some c) cs i f = kinds_cons c cs i f
+kinds_then None cs i f = f
+kinds_then (Some c) cs i f = kinds_cons c cs i f
 
 -- ── The parts ──
 entry_known : (r : Region) → KindIn (block_claim r)
 unfolding block_claim
-entry_known r = either KindIn (eqb r.size 0 || leb (2 ^ 64) (r.address + r.size)) nothing (some _) tt (is_kind Reserved)
+entry_known r = either KindIn (eqb r.size 0 || leb (2 ^ 64) (r.address + r.size)) None (Some _) tt (is_kind Reserved)
 
 block_known : (l : List Region) → Kinds (block_claims l)
 unfolding block_claims
@@ -96,16 +94,16 @@ unfolding reserved_claims
 reserved_known t = either Kinds (children_count (props_of t) (props_of (under_root reserved_memory_name t))) _ _ (kids_known _ _ _ _ _) kinds_none
 
 soc_by_known : (t s : Nodes) (v : Option (List ℕ)) → Kinds (soc_by t s v)
-soc_by_known t s nothing = kinds_none
-soc_by_known t s (some v) = kids_known _ _ _ _ _
+soc_by_known t s None = kinds_none
+soc_by_known t s (Some v) = kids_known _ _ _ _ _
 
 soc_known : (t : Nodes) → Kinds (soc_claims t)
 unfolding soc_claims
 soc_known t = soc_by_known t (under_root soc_name t) (value_of ranges_name (props_of (under_root soc_name t)))
 
-uart_known : (u : Uart) → KindIn (uart_claim u)
-uart_known (UartRange r) = is_kind Device
-uart_known NoUart = tt
+uart_known : (u : Option Region) → KindIn (uart_claim u)
+uart_known (Some r) = is_kind Device
+uart_known None = tt
 
 stdout_known : (t : Nodes) → Kinds (stdout_claims t)
 unfolding stdout_claims

@@ -1,4 +1,5 @@
 -- Of an accepted tree, the interrupt controllers' claims are those that translation gives, entry by entry, in the same order. Assumes nothing.
+use Rattle.std.specs.Prelude.{Some, Ok}
 use mathlib.Core.Path.{◌≡◌, refl, ap₂}
 use mathlib.Core.Bool.{Bool, true, false, cond}
 use mathlib.Core.List.{List, [], ◌∷◌, ◌++◌}
@@ -7,7 +8,6 @@ use Rattle.entry.specs.declared.Claim.{Claim}
 use Rattle.cells.specs.declared.Region.{Region}
 use Rattle.cells.specs.Rows.{rows}
 use Rattle.fdt.specs.declared.Blocks.{Blocks}
-use Rattle.fdt.specs.declared.Opened.TheVariants.{Tree}
 use Rattle.fdt.specs.Header.{structure_of, strings_of}
 use Rattle.fdt.specs.Opening.{opened_of}
 use Rattle.fdt.specs.Tree.{Property, Nodes, none, node, tree_of}
@@ -31,7 +31,7 @@ landed_answer (To x) size k = refl
 landed_answer Nowhere size k = refl
 landed_answer Unreadable size k = refl
 
-module _ (s : List ℕ) (k : Blocks) (o : opened_of s ≡ Tree k) where
+module _ (s : List ℕ) (k : Blocks) (o : opened_of s ≡ Ok (Some k)) where
   abbrev tree : Nodes
   tree = tree_of (structure_of s) (strings_of s)
 

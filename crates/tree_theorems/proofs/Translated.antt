@@ -1,6 +1,7 @@
 -- What translation gives. On every tree: its number is 0 exactly where no address is found, and a target that has one is a node below the
 -- root. On an accepted tree: any other number is the target's place in document order; and a root's child lies where the claims of
 -- interrupt controllers put it. Assumes nothing.
+use Rattle.std.specs.Prelude.{Option, Some, None, Ok}
 use mathlib.Core.Path.{◌≡◌, refl, sym, ◌∙◌, ap, subst}
 use mathlib.Core.Logic.{◌↔◌, ◌⊎◌, inl, inr, ⊎_elim}
 use mathlib.Core.Bool.{Bool, true, false, cond}
@@ -13,7 +14,6 @@ use Rattle.words.proofs.BytesLaws.{never, cond_elim}
 use Rattle.cells.specs.declared.Region.{Region}
 use Rattle.cells.specs.Rows.{rows}
 use Rattle.fdt.specs.declared.Blocks.{Blocks}
-use Rattle.fdt.specs.declared.Opened.TheVariants.{Tree}
 use Rattle.fdt.specs.Header.{structure_of, strings_of}
 use Rattle.fdt.specs.Tree.{Property, Nodes, none, node, tree_of}
 use Rattle.fdt.specs.Opening.{opened_of}
@@ -34,8 +34,7 @@ use Rattle.subtree.specs.Subtree.{props_of}
 use Rattle.translation.specs.declared.Sought.{Sought}
 use Rattle.translation.specs.declared.Sought.TheVariants.{Given}
 use Rattle.translation.specs.declared.Translated.{Translated}
-use Rattle.translation.specs.declared.Translated.TheVariants.{Found, NoAddress}
-use Rattle.translation.specs.Translation.{address_of, size_of, or_else, trail, climb, climbed, Start, from, no_start, start_of, answer, from_start, parent_of, along_trail, translated, tried_number}
+use Rattle.translation.specs.Translation.{address_of, size_of, or_else, trail, climb, climbed, Start, from, no_start, start_of, answer, from_start, parent_of, along_trail, translated, tried_number, reached}
 use Rattle.claims.specs.declared.Way.TheVariants.{Controllers}
 use Rattle.claims.specs.Claims.{lands_by}
 use Rattle.tree_theorems.specs.Children.{Child, this as child-first, later as child-later}
@@ -85,17 +84,17 @@ trail_child {q = q} (child-later {p = p} {nm = nm} {os = os} {kids = kids} {rest
 
 -- ── What is found ──
 -- the number of a found address is the number that was handed on
-answer_number_lem : (w : Window) (size k : ℕ) {r : Region} {n : ℕ} → answer w size k ≡ Found r n → n ≡ k
-answer_number_lem (To x) size k e = cc
+answer_number_lem : (w : Window) (size k : ℕ) {r : Region} {n : ℕ} → answer w size k ≡ Some (reached r n) → n ≡ k
+answer_number_lem (To x) size k e = ap tried_number (sym e)
 answer_number_lem Nowhere size k e = never (cc)
 answer_number_lem Unreadable size k e = never (cc)
 
-start_number : (s : Start) (above : List (List Property)) (k : ℕ) {r : Region} {n : ℕ} → from_start s above k ≡ Found r n → n ≡ k
+start_number : (s : Start) (above : List (List Property)) (k : ℕ) {r : Region} {n : ℕ} → from_start s above k ≡ Some (reached r n) → n ≡ k
 start_number (from r) above k e = answer_number_lem (climbed above r.address r.size) r.size k e
 start_number no_start above k e = never (cc)
 
 -- and there was a trail
-trail_number : (l : List (List Property)) (s : Sought) (k : ℕ) {r : Region} {n : ℕ} → along_trail l s k ≡ Found r n → (n ≡ k) × (l ≡ [] → ⊥)
+trail_number : (l : List (List Property)) (s : Sought) (k : ℕ) {r : Region} {n : ℕ} → along_trail l s k ≡ Some (reached r n) → (n ≡ k) × (l ≡ [] → ⊥)
 trail_number [] s k e = never (cc)
 trail_number (own ∷ above) s k e =
     (start_number (start_of s (address_of (parent_of above)) (size_of (parent_of above)) (value_of reg_name own)) above k e, λ z. never (cc))
@@ -132,9 +131,9 @@ module _ (t : Nodes) (q : ℕ) (sought : Sought) where
   found_where : (k : ℕ) → tried_number (translated t q sought) ≡ k → 0 < k → HasAddress (translated t q sought)
   found_where k = go (translated t q sought) refl
     where
-      go : (x : Translated) → translated t q sought ≡ x → tried_number x ≡ k → 0 < k → HasAddress (translated t q sought)
-      go (Found r n) e h l = record { region = r; number = n; found = e }
-      go NoAddress e h l = let z : ⊥ = omega arith in absurd z
+      go : (x : Option Translated) → translated t q sought ≡ x → tried_number x ≡ k → 0 < k → HasAddress (translated t q sought)
+      go (Some x) e h l = record { region = x.region; number = x.tried; found = e }
+      go None e h l = let z : ⊥ = omega arith in absurd z
 
   -- THE THEOREM: "A failure gives 0.", and nothing else does
   pub failure_exactly : (tried_number (translated t q sought) ≡ 0) ↔ (HasAddress (translated t q sought) → ⊥)
@@ -160,7 +159,7 @@ module _ (b n : List ℕ) (root : ℕ) (ps : List Property) (kids : Nodes) (w : 
       let f : Among root [] ps none none alone = first in
       apart f (order kids []) (ascending b n root ps kids w) (rw e (one_in i.among []))
 
-  tried_written : (q : ℕ) (s : Sought) {r : Region} {k : ℕ} → translated (node root [] ps kids none) q s ≡ Found r k → k ≡ place_at b n q
+  tried_written : (q : ℕ) (s : Sought) {r : Region} {k : ℕ} → translated (node root [] ps kids none) q s ≡ Some (reached r k) → k ≡ place_at b n q
   unfolding translated order number_in
   tried_written q s e =
       let f = trail_number (trail q kids (ps ∷ [])) s (number_in (order kids []) q 1) e in
@@ -173,15 +172,15 @@ module _ (b n : List ℕ) (root : ℕ) (ps : List Property) (kids : Nodes) (w : 
   child_written c r = rw (trail_child c (ps ∷ []) (ascending_past alone (order kids []) (ascending b n root ps kids w)).1)
 
 -- THE THEOREMS
-module _ (s : List ℕ) (k : Blocks) (o : opened_of s ≡ Tree k) where
+module _ (s : List ℕ) (k : Blocks) (o : opened_of s ≡ Ok (Some k)) where
   abbrev tree : Nodes
   tree = tree_of (structure_of s) (strings_of s)
 
   -- the number of nodes tried is the target's place in document order, as reading gives it
-  pub tried_is_place : (q : ℕ) (sought : Sought) (r : Region) (n : ℕ) → translated tree q sought ≡ Found r n
+  pub tried_is_place : (q : ℕ) (sought : Sought) (r : Region) (n : ℕ) → translated tree q sought ≡ Some (reached r n)
       → n ≡ place_at (structure_of s) (strings_of s) q
   tried_is_place q sought r n e =
-      on_written s k o (λ t. translated t q sought ≡ Found r n → n ≡ place_at (structure_of s) (strings_of s) q)
+      on_written s k o (λ t. translated t q sought ≡ Some (reached r n) → n ≡ place_at (structure_of s) (strings_of s) q)
       (λ root ps kids w. tried_written (structure_of s) (strings_of s) root ps kids w q sought) e
 
   -- THE THEOREM: a number above 0 is given exactly when an address is found and the number is the target's place in document order

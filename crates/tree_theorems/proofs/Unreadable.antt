@@ -1,11 +1,11 @@
 -- The tests of 7 and 8 hold exactly when their words do. Assumes nothing.
+use Rattle.std.specs.Prelude.{Option, Some, None}
 use mathlib.Core.Path.{◌≡◌, refl, sym, ◌∙◌, ap}
 use mathlib.Core.Logic.{◌↔◌, ◌⊎◌, inl, inr, ⊎_elim}
 use Prim.Native.Nat.{ℕ}
 use native.Mathlib.Omega.{arith}
 use mathlib.Core.Bool.{Bool, true, false, ◌&&◌}
 use mathlib.Core.List.{List, [], ◌∷◌}
-use mathlib.Core.Option.{Option, some, none as nothing}
 use lib.ListN.{length}
 use lib.Dec.{eqb}
 use borrow.Author.Tests.{eq-eqb, eqb-true}
@@ -38,9 +38,9 @@ both true y = (λ e. (refl, e), λ w. w.1)
 both false y = (λ e. never (cc), λ w. w.0)
 
 -- a test on a value that may be there, where a missing one fails it
-in_value_lem : (f : List ℕ → Bool) (v : Option (List ℕ)) → (in_value f false v ≡ true) ↔ ((x : List ℕ) × (v ≡ some x) × (f x ≡ true))
-in_value_lem f nothing = (λ e. never (cc), λ w. let h = w.1 in never (cc))
-in_value_lem f (some x) = (λ e. (x, refl, e), λ w. let h = w.1 in let g = w.2 in cc)
+in_value_lem : (f : List ℕ → Bool) (v : Option (List ℕ)) → (in_value f false v ≡ true) ↔ ((x : List ℕ) × (v ≡ Some x) × (f x ≡ true))
+in_value_lem f None = (λ e. never (cc), λ w. let h = w.1 in never (cc))
+in_value_lem f (Some x) = (λ e. (x, refl, e), λ w. let h = w.1 in let g = w.2 in cc)
 
 is_unreadable_lem : {A : Type 0} (t : Table A) → (is_unreadable t ≡ true) ↔ (t ≡ unreadable)
 is_unreadable_lem unreadable = (λ e. refl, λ e. refl)
@@ -56,13 +56,13 @@ module _ (name : List ℕ) (ps : List Property) (k : ℕ) where
   states : (count_of (value_of name ps) ≡ Stated k) ↔ States name ps k
   states = (there (value_of name ps) refl, back)
     where
-      here : (v : List ℕ) → value_of name ps ≡ some v → (b : Bool) → eqb (length v) 4 ≡ b → stated_by v ≡ Stated k → States name ps k
+      here : (v : List ℕ) → value_of name ps ≡ Some v → (b : Bool) → eqb (length v) 4 ≡ b → stated_by v ≡ Stated k → States name ps k
       here v e true h q = let i = stated_is v (eqb-true _ _ h) in record { value = v; has = e; long = eqb-true _ _ h; says = cc }
       here v e false h q = let i = stated_not v (λ l. let j = eq-eqb (length v) 4 l in never (cc)) in never (cc)
 
       there : (v : Option (List ℕ)) → value_of name ps ≡ v → count_of v ≡ Stated k → States name ps k
-      there nothing e q = never (cc)
-      there (some v) e q = here v e (eqb (length v) 4) refl q
+      there None e q = never (cc)
+      there (Some v) e q = here v e (eqb (length v) 4) refl q
 
       back : States name ps k → count_of (value_of name ps) ≡ Stated k
       back s = ap count_of s.has ∙ stated_is s.value s.long ∙ ap Stated s.says
@@ -95,18 +95,18 @@ module _ (root ps : List Property) where
     λ c. (both _ _).1 ((alike address_cells).1 c.address, (both _ _).1 ((alike size_cells).1 c.size, rw c.ranges)),
   )
     where
-      empty : (v : Option (List ℕ)) → is_empty v ≡ true → v ≡ some []
-      empty nothing e = never (cc)
-      empty (some []) e = refl
-      empty (some (x ∷ l)) e = let h : length (x ∷ l) ≡ 0 = eqb-true _ _ e in absurd (omega arith)
+      empty : (v : Option (List ℕ)) → is_empty v ≡ true → v ≡ Some []
+      empty None e = never (cc)
+      empty (Some []) e = refl
+      empty (Some (x ∷ l)) e = let h : length (x ∷ l) ≡ 0 = eqb-true _ _ e in absurd (omega arith)
 
 pub counts : (ps : List Property) → (available ps ≡ true) ↔ Counts ps
 unfolding available
 counts ps = (there (value_of status_name ps) refl, ⊎_elim (λ e. rw e) (λ e. rw e (equal_same okay okay refl)))
   where
-    there : (v : Option (List ℕ)) → value_of status_name ps ≡ v → available_by v ≡ true → (value_of status_name ps ≡ nothing) ⊎ (value_of status_name ps ≡ some okay)
-    there nothing e h = inl e
-    there (some v) e h = inr (e ∙ ap some (same_equal v okay h))
+    there : (v : Option (List ℕ)) → value_of status_name ps ≡ v → available_by v ≡ true → (value_of status_name ps ≡ None) ⊎ (value_of status_name ps ≡ Some okay)
+    there None e h = inl e
+    there (Some v) e h = inr (e ∙ ap Some (same_equal v okay h))
 
 -- ── 7 ──
 module _ (parent ps : List Property) where
@@ -157,8 +157,8 @@ virt_exactly arm t = (
 )
   where
     there : (s : Option (List ℕ)) → string_in (value_of model_name (props_of t)) ≡ s → arm ≡ true → holds_virt s ≡ true → Virtual arm t
-    there nothing e b h = never (cc)
-    there (some m) e b h =
+    there None e b h = never (cc)
+    there (Some m) e b h =
         let w = (contains_exactly m dummy_virt).0 h in
         record { built = b; model = m; has = e; before = w.0; after = w.1; holds = w.2 }
 

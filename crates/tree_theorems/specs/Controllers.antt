@@ -1,7 +1,6 @@
 -- The interrupt controllers' claims as document 01 has them: "then the root's children with `interrupt-controller`, translated." Each entry
 -- of a child's `reg` goes through translation itself, from the child's own place in the tree.
-use Rattle.std.specs.Prelude.{ℕ, cond, List, [], ◌∷◌, ◌++◌}
-use Rattle.std.proofs.Math.Option.{Option, some, none as nothing}
+use Rattle.std.specs.Prelude.{ℕ, cond, List, [], ◌∷◌, ◌++◌, Option, Some, None}
 use Rattle.entry.specs.declared.BootloaderMemoryKind.TheVariants.{Device}
 use Rattle.entry.specs.Kind.{number_of}
 use Rattle.entry.specs.declared.Claim.{Claim}
@@ -14,15 +13,14 @@ use Rattle.subtree.specs.Names.{reg_name, interrupt_controller_name}
 use Rattle.subtree.specs.Subtree.{props_of}
 use Rattle.translation.specs.declared.Sought.TheVariants.{Given}
 use Rattle.translation.specs.declared.Translated.{Translated}
-use Rattle.translation.specs.declared.Translated.TheVariants.{Found, NoAddress}
 use Rattle.translation.specs.Translation.{address_of, size_of, translated}
 use Rattle.stdout.specs.Stdout.{is_there}
 use Rattle.claims.specs.Claims.{and_then, entries_in}
 
 -- a Device at the translated address; nothing where there is none
-abbrev pub device_at : Translated → Option Claim
-device_at (Found r k) = some (claim r.address r.size (number_of Device))
-device_at NoAddress = nothing
+abbrev pub device_at : Option Translated → Option Claim
+device_at (Some t) = Some (claim t.region.address t.region.size (number_of Device))
+device_at None = None
 
 module _ (tree : Nodes) where
   -- these regions of the node at q, one after the other

@@ -1,6 +1,5 @@
 -- The rows 7 and 8 of document 01, "Numbers a caller gets back", on a tree: each in its own words, and with no test of the code's.
-use Rattle.std.specs.Prelude.{◌≡◌, ◌⊎◌, ℕ, ◌+◌, ◌%◌, Bool, true, List, [], ◌∷◌, ◌++◌, length}
-use Rattle.std.proofs.Math.Option.{some, none as nothing}
+use Rattle.std.specs.Prelude.{◌≡◌, ◌⊎◌, ℕ, ◌+◌, ◌%◌, Bool, true, List, [], ◌∷◌, ◌++◌, length, Some, None}
 use Rattle.words.specs.Bytes.{word}
 use Rattle.cells.specs.declared.Region.{Region}
 use Rattle.cells.specs.Count.{address_width, size_width, Unfit}
@@ -18,7 +17,7 @@ use Rattle.tree_theorems.specs.Children.{Child}
 -- a node with these properties states k as a count of cells, "in 4 bytes"
 pub record States (name : List ℕ) (ps : List Property) (k : ℕ) : Type 0 where
   pub value : List ℕ
-  pub has : value_of name ps ≡ some value
+  pub has : value_of name ps ≡ Some value
   pub long : length value ≡ 4
   pub says : word value 0 ≡ k
 
@@ -26,17 +25,17 @@ pub record States (name : List ℕ) (ps : List Property) (k : ℕ) : Type 0 wher
 pub record ChildrenCount (root ps : List Property) : Type 0 where
   pub address : (k : ℕ) × States address_cells root k × States address_cells ps k
   pub size : (k : ℕ) × States size_cells root k × States size_cells ps k
-  pub ranges : value_of ranges_name ps ≡ some []
+  pub ranges : value_of ranges_name ps ≡ Some []
 
 -- "A child counts if `status` is absent or `okay` with its zero byte."
 abbrev pub Counts : List Property → Type 0
-Counts ps = (value_of status_name ps ≡ nothing) ⊎ (value_of status_name ps ≡ some okay)
+Counts ps = (value_of status_name ps ≡ None) ⊎ (value_of status_name ps ≡ Some okay)
 
 -- "A nonempty `reg` .. is unreadable if a cell count is not 1 or 2, a governing cell property is not 4 bytes, or bytes are left over."
 -- "`reg` uses the parent's cells"
 pub record UnreadableReg (parent ps : List Property) : Type 0 where
   pub value : List ℕ
-  pub has : value_of reg_name ps ≡ some value
+  pub has : value_of reg_name ps ≡ Some value
   pub nonempty : length value ≡ 0 → ⊥
   pub why : Unfit (address_of parent)
       ⊎ (Unfit (size_of parent)
@@ -45,7 +44,7 @@ pub record UnreadableReg (parent ps : List Property) : Type 0 where
 -- the same of `ranges`, which "has child address and size by the bus's own cells, parent address by its parent's"
 pub record UnreadableRanges (parent ps : List Property) : Type 0 where
   pub value : List ℕ
-  pub has : value_of ranges_name ps ≡ some value
+  pub has : value_of ranges_name ps ≡ Some value
   pub nonempty : length value ≡ 0 → ⊥
   pub why : Unfit (address_of ps)
       ⊎ (Unfit (address_of parent)
@@ -55,7 +54,7 @@ pub record UnreadableRanges (parent ps : List Property) : Type 0 where
 -- "each readable `reg` entry": a node has at least one
 pub record ReadableEntry (parent ps : List Property) : Type 0 where
   pub value : List ℕ
-  pub has : value_of reg_name ps ≡ some value
+  pub has : value_of reg_name ps ≡ Some value
   pub entry : Region
   pub others : List Region
   pub reads : reg_of (address_of parent) (size_of parent) value ≡ rows (entry ∷ others)
@@ -73,7 +72,7 @@ pub record BadReserved (t : Nodes) : Type 0 where
 pub record Virtual (arm : Bool) (t : Nodes) : Type 0 where
   pub built : arm ≡ true
   pub model : List ℕ
-  pub has : string_in (value_of model_name (props_of t)) ≡ some model
+  pub has : string_in (value_of model_name (props_of t)) ≡ Some model
   pub before : List ℕ
   pub after : List ℕ
   pub holds : model ≡ before ++ (dummy_virt ++ after)

@@ -53,10 +53,8 @@ fn same_byte(text: &[u8], at: usize, x: u8) -> usize {
 // The place after some bytes, if a text has them there.
 fn same_bytes<'a>(text: &'a [u8], at: usize, bytes: &'a [u8]) -> usize {
     let mut p = at;
-    let mut i: usize = 0;
-    while i < bytes.len() {
-        p = same_byte(text, p, bytes[i]);
-        i += 1;
+    for x in bytes {
+        p = same_byte(text, p, *x);
     }
     p
 }
@@ -76,12 +74,9 @@ fn digit(x: u8) -> u8 {
 // The place after the digits of some bytes, two for each.
 fn same_hex<'a>(text: &'a [u8], at: usize, bytes: &'a [u8]) -> usize {
     let mut p = at;
-    let mut i: usize = 0;
-    while i < bytes.len() {
-        let x = bytes[i];
-        p = same_byte(text, p, digit(x / 16));
-        p = same_byte(text, p, digit(x));
-        i += 1;
+    for x in bytes {
+        p = same_byte(text, p, digit(*x / 16));
+        p = same_byte(text, p, digit(*x));
     }
     p
 }
@@ -114,12 +109,10 @@ fn same_reservation(text: &[u8], from: usize, entry: Region) -> usize {
 // The place after the lines of the reservation block. An entry takes more than one byte, so there are fewer of them.
 fn same_reservations<'a>(block: &'a [u8], text: &'a [u8]) -> usize {
     let mut p: usize = 0;
-    let mut i: usize = 0;
-    while i < block.len() {
+    for i in 0..block.len() {
         match reservations::reserved_entry(block, i) {
             Reservation::Entry(entry) => {
                 p = same_reservation(text, p, entry);
-                i += 1;
             }
             Reservation::End => {
                 return p;
@@ -152,9 +145,7 @@ fn property_name(strings: &[u8], a: usize, z: usize) -> &[u8] {
 // The next property from a place on, past NOPs, or none.
 fn property_from<'a>(tree: Tree<'a>, from: usize) -> usize {
     let mut at = from;
-    let mut turns = tree.structure.len();
-    while 0 < turns {
-        turns -= 1;
+    for _ in 0..tree.structure.len() {
         match fdt::token_at(tree, at) {
             Token::Nop(next) => {
                 at = next;
@@ -224,9 +215,7 @@ fn same_property<'a>(tree: Tree<'a>, text: &'a [u8], from: usize, at: usize) -> 
 fn same_properties<'a>(tree: Tree<'a>, text: &'a [u8], from: usize, node: usize) -> usize {
     let mut at = property_from(tree, content(tree, node));
     let mut p = from;
-    let mut turns = tree.structure.len();
-    while 0 < turns {
-        turns -= 1;
+    for _ in 0..tree.structure.len() {
         if at == NONE {
             return p;
         }
@@ -249,9 +238,7 @@ fn same_node<'a>(tree: Tree<'a>, text: &'a [u8], from: usize, node: usize, depth
 // The first property of a name of a node, or none: what nodes::getprop has to find.
 fn first_named<'a>(tree: Tree<'a>, node: usize, name: &'a [u8]) -> usize {
     let mut at = property_from(tree, content(tree, node));
-    let mut turns = tree.structure.len();
-    while 0 < turns {
-        turns -= 1;
+    for _ in 0..tree.structure.len() {
         if at == NONE {
             return NONE;
         }
@@ -306,9 +293,7 @@ fn finds_property<'a>(tree: Tree<'a>, node: usize, above: usize, at: usize) -> b
 
 fn finds_properties<'a>(tree: Tree<'a>, node: usize, above: usize) -> bool {
     let mut at = property_from(tree, content(tree, node));
-    let mut turns = tree.structure.len();
-    while 0 < turns {
-        turns -= 1;
+    for _ in 0..tree.structure.len() {
         if at == NONE {
             return true;
         }
@@ -354,12 +339,10 @@ fn has_cells<'a>(tree: Tree<'a>, node: usize) -> bool {
 
 // The part of a name before its first `@`.
 fn stem(name: &[u8]) -> &[u8] {
-    let mut i: usize = 0;
-    while i < name.len() {
+    for i in 0..name.len() {
         if name[i] == b'@' {
             return words::part(name, 0, i);
         }
-        i += 1;
     }
     name
 }
@@ -387,9 +370,7 @@ fn matches<'a>(name: &'a [u8], step: &'a [u8]) -> bool {
 // The first child that a step names, or none: what nodes::subnode has to find.
 fn first_child<'a>(tree: Tree<'a>, node: usize, step: &'a [u8]) -> usize {
     let mut at = place(nodes::first_subnode(tree, node));
-    let mut turns = tree.structure.len();
-    while 0 < turns {
-        turns -= 1;
+    for _ in 0..tree.structure.len() {
         if at == NONE {
             return NONE;
         }
@@ -422,13 +403,11 @@ fn finds_node<'a>(tree: Tree<'a>, above: usize, node: usize) -> bool {
 // step holds a `/` and so is two.
 fn append(path: &mut [u8; PATH], at: usize, step: &[u8]) -> usize {
     let mut p = put(path, at, b'/');
-    let mut i: usize = 0;
-    while i < step.len() {
-        if step[i] == b'/' {
+    for x in step {
+        if *x == b'/' {
             return NONE;
         }
-        p = put(path, p, step[i]);
-        i += 1;
+        p = put(path, p, *x);
     }
     p
 }
@@ -457,9 +436,7 @@ fn write_path<'a>(
     path: &mut [u8; PATH],
 ) -> usize {
     let mut len: usize = 0;
-    let mut i: usize = 0;
-    while i < depth {
-        i += 1;
+    for i in 1..=depth {
         len = append(path, len, step_of(tree, up(ups, i), whole));
     }
     len
@@ -468,9 +445,7 @@ fn write_path<'a>(
 // The node that such a path leads to, or none: what nodes::path_offset has to find. An empty step finds nothing.
 fn follow<'a>(tree: Tree<'a>, ups: &[usize; 32], depth: usize, whole: bool) -> usize {
     let mut node = up(ups, 0);
-    let mut i: usize = 0;
-    while i < depth {
-        i += 1;
+    for i in 1..=depth {
         let step = step_of(tree, up(ups, i), whole);
         if step.len() == 0 {
             return NONE;
@@ -555,15 +530,9 @@ fn check_node<'a>(tree: Tree<'a>, ups: &[usize; 32], depth: usize, nodes: usize)
 
 // The node after one that has no children: a sibling of it, or of the nearest node above it that has one.
 fn onward<'a>(tree: Tree<'a>, ups: &[usize; 32], depth: usize) -> Next {
-    let mut d = depth;
-    while 0 < d {
-        match nodes::next_subnode(tree, up(ups, d)) {
-            Some(next) => {
-                return Next::Node(next, d);
-            }
-            None => {
-                d -= 1;
-            }
+    for d in (1..=depth).rev() {
+        if let Some(next) = nodes::next_subnode(tree, up(ups, d)) {
+            return Next::Node(next, d);
         }
     }
     match nodes::next_subnode(tree, up(ups, 0)) {
@@ -597,15 +566,13 @@ fn walk<'a>(tree: Tree<'a>, text: &'a [u8], from: usize, root: usize) -> u64 {
     let mut node = root;
     let mut depth: usize = 0;
     let mut p = from;
-    let mut nodes: usize = 0;
-    while nodes < 4096 {
+    for nodes in 0..4096 {
         set(&mut ups, depth, node);
         p = same_node(tree, text, p, node, depth);
         let part = check_node(tree, &ups, depth, nodes);
         if part != 0 {
             return part;
         }
-        nodes += 1;
         match next_node(tree, &ups, depth) {
             Next::Node(n, d) => {
                 node = n;
@@ -699,15 +666,13 @@ fn is_whole(buf: &[u8], at: usize, have: usize) -> bool {
     end <= have
 }
 
-// Replays case after case. A proved loop has to end, and nothing says that a stream does, so it counts its turns
-// down, from a number that no run uses up.
+// Replays case after case. A proved loop has to end, and nothing says that a stream does, so its turns are counted, up to a number that
+// no run uses up.
 fn replay<R: Read, E: Eprint>(input: &mut R, told: &E, buf: &mut [u8; SPACE]) -> Tally {
     let mut tally = stream::fresh();
     let mut have: usize = 0;
     let mut at: usize = 0;
-    let mut turns = u64::MAX;
-    while 0 < turns {
-        turns -= 1;
+    for _ in 0..u64::MAX {
         if !is_whole(buf, at, have) {
             have = stream::refill(input, told, buf, at, have);
             at = 0;

@@ -1,5 +1,6 @@
 -- Document 01: "Bytes past totalsize are not read." Of the whole call: trees that begin with the same totalsize bytes give the same map and
 -- the same answer, and so does a tree without what is past them. Assumes nothing.
+use Rattle.std.specs.Prelude.{Option, Some, None, Result, Ok, Err}
 use mathlib.Core.Path.{◌≡◌, refl, ◌∙◌, ap}
 use mathlib.Core.Logic.{⊎_elim}
 use Prim.Native.Nat.{ℕ, ◌-◌, ◌%◌, ◌≤◌}
@@ -10,8 +11,8 @@ use lib.ListN.{take}
 use lib.Dec.{leb, eqb}
 use borrow.Author.Tests.{leb-true}
 use Rattle.memory.specs.declared.MemoryMap.{MemoryMap}
-use Rattle.fdt.specs.declared.Opened.{Opened}
-use Rattle.fdt.specs.declared.Opened.TheVariants.{NoTree, Tree, BadHeader, OverLimit, BadStructure}
+use Rattle.fdt.specs.declared.Blocks.{Blocks}
+use Rattle.fdt.specs.declared.TreeFault.{TreeFault}
 use Rattle.fdt.specs.Header.{totalsize, GoodHeader, off_dt_struct, off_mem_rsvmap}
 use Rattle.fdt.specs.Opening.{blocks_of, opened_of}
 use Rattle.grammar.specs.Past.{SameFront}
@@ -41,14 +42,12 @@ module _ (s u : List ℕ) (d : SameFront s u) where
   unfolding tree_registered
   front_call p m arm = rw (← front_opened s u d) (go (opened_of s) refl)
     where
-      go : (o : Opened) → opened_of s ≡ o → opened_call p m s arm o ≡ opened_call p m u arm o
-      go NoTree e = refl
-      go BadHeader e = refl
-      go OverLimit e = refl
-      go BadStructure e = refl
-      go (Tree k) e =
+      go : (o : Result (Option Blocks) TreeFault) → opened_of s ≡ o → opened_call p m s arm o ≡ opened_call p m u arm o
+      go (Ok None) e = refl
+      go (Err _) e = refl
+      go (Ok (Some k)) e =
           let b = opened_blocks s k e in
-          let g = ((opened_exactly s).0 (e ∙ ap Tree b)).0 in
+          let g = ((opened_exactly s).0 (e ∙ ap Ok (ap Some b))).0 in
           rw (b, block_front g, front_structure s u d g, front_strings s u d g)
 
 -- THE CALL: the whole answer, and the map, are those of the first totalsize bytes

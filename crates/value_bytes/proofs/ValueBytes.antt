@@ -1,6 +1,7 @@
 -- Document 01: "Where the strings block does not overlap the structure block, two trees that differ only in value bytes of properties other
 -- than [the named ones] and those in /aliases give equal claims or the same refusal." And "Padding values don't matter." From the laws on the veiled tree (VeilClaims), and
 -- from VeilLaws: both are opened alike, and their veiled trees are equal. Assumes nothing.
+use Rattle.std.specs.Prelude.{Option, Some, None, Result, Ok, Err}
 use mathlib.Core.Path.{◌≡◌, refl, sym, ◌∙◌, ap}
 use Prim.Native.Nat.{ℕ, ◌+◌, ◌-◌, ◌≤◌, ◌<◌}
 use native.Mathlib.Omega.{arith}
@@ -14,8 +15,7 @@ use Rattle.words.specs.Bytes.{part_of}
 use Rattle.words.proofs.BytesLaws.{part_none, part_length, part_byte}
 use Rattle.memory.specs.declared.MemoryMap.{MemoryMap}
 use Rattle.fdt.specs.declared.Blocks.{Blocks}
-use Rattle.fdt.specs.declared.Opened.{Opened}
-use Rattle.fdt.specs.declared.Opened.TheVariants.{NoTree, Tree, BadHeader, OverLimit, BadStructure}
+use Rattle.fdt.specs.declared.TreeFault.{TreeFault}
 use Rattle.fdt.specs.Header.{off_dt_struct, structure_of, strings_of}
 use Rattle.fdt.specs.Tree.{Property, Nodes, tree_of}
 use Rattle.fdt.specs.Opening.{blocks_of, opened_of}
@@ -55,7 +55,7 @@ module _ (free : Free) (s u : List ℕ) (d : Differs free s u) where
           ∙ sym (part_byte u at n also i in_part))
 
   -- the reservation block ends where the structure block begins
-  block_same : (k : Blocks) → opened_of s ≡ Tree k → block_in s k ≡ block_in u k
+  block_same : (k : Blocks) → opened_of s ≡ Ok (Some k) → block_in s k ≡ block_in u k
   unfolding block_in blocks_of
   block_same k e =
       rw (opened_blocks s k e, part_same (blocks_of s).reservations (off_dt_struct s - (blocks_of s).reservations) (λ i l. omega arith))
@@ -76,7 +76,7 @@ module _ (free : Free) (s u : List ℕ) (d : Differs free s u) (apart : Apart s)
   same_judged_of_bytes arm = alike (judged_of arm) (λ t h. same_judged h arm)
 
   -- where both are opened, they claim the same, in the same order
-  pub same_claims_of_bytes : (arm : Bool) (j i : Blocks) → opened_of s ≡ Tree j → opened_of u ≡ Tree i
+  pub same_claims_of_bytes : (arm : Bool) (j i : Blocks) → opened_of s ≡ Ok (Some j) → opened_of u ≡ Ok (Some i)
       → claims_of arm (entries_of (block_in s j)) (tree_of (structure_of s) (strings_of s))
       ≡ claims_of arm (entries_of (block_in u i)) (tree_of (structure_of u) (strings_of u))
   same_claims_of_bytes arm j i x y =
@@ -90,12 +90,10 @@ module _ (free : Free) (s u : List ℕ) (d : Differs free s u) (apart : Apart s)
   unfolding tree_registered
   same_call p m arm = rw (← same_opened free s u d apart) (go (opened_of s) refl)
     where
-      go : (o : Opened) → opened_of s ≡ o → opened_call p m s arm o ≡ opened_call p m u arm o
-      go NoTree e = refl
-      go BadHeader e = refl
-      go OverLimit e = refl
-      go BadStructure e = refl
-      go (Tree j) e =
+      go : (o : Result (Option Blocks) TreeFault) → opened_of s ≡ o → opened_call p m s arm o ≡ opened_call p m u arm o
+      go (Ok None) e = refl
+      go (Err _) e = refl
+      go (Ok (Some j)) e =
           let there = sym (same_opened free s u d apart) ∙ e in
           rw (same_judged_of_bytes arm, same_claims_of_bytes arm j j e there)
 

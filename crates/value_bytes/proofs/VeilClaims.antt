@@ -1,9 +1,9 @@
 -- What a tree is refused for, and what it claims, does not look behind the veil: from the laws of VeilShape on the nodes that are asked,
 -- and of VeilRules on what is read there. Assumes nothing.
+use Rattle.std.specs.Prelude.{Option, Some, None}
 use mathlib.Core.Path.{◌≡◌, refl}
 use Prim.Native.Nat.{ℕ}
 use mathlib.Core.Bool.{Bool, true, false}
-use mathlib.Core.Option.{Option, some, none as nothing}
 use mathlib.Core.List.{List}
 use Rattle.cells.specs.declared.CellCount.{CellCount}
 use Rattle.cells.specs.declared.Region.{Region}
@@ -62,8 +62,8 @@ module _ {free : Free} {t : Nodes} (k : Unread free t) where
   soc_veil = rw (under_veil free soc_name t) (go (under_root soc_name t))
     where
       by : (s : Nodes) (o : Option (List ℕ)) → soc_by (veil_k free t) (veil_k free s) o ≡ soc_by t s o
-      by s nothing = refl
-      by s (some v) = simp (props_veil free, kids_veil free, address_veil k, size_veil k, kid_claims_veil)
+      by s None = refl
+      by s (Some v) = simp (props_veil free, kids_veil free, address_veil k, size_veil k, kid_claims_veil)
 
       go : (s : Nodes)
           → soc_by (veil_k free t) (veil_k free s) (value_of ranges_name (props_of (veil_k free s))) ≡ soc_by t s (value_of ranges_name (props_of s))

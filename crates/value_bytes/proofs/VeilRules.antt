@@ -1,9 +1,9 @@
 -- The rules on one node, and on the way to it, do not look behind the veil: cell counts, translation, which children of /reserved-memory
 -- count, and the console. Each reads values of kept names only, or whether a property is there. From the laws of ReadVeil on a kept name's
 -- value and on the order, and of VeilShape on the nodes that are asked. Assumes nothing.
+use Rattle.std.specs.Prelude.{Option, Some, None}
 use mathlib.Core.Path.{◌≡◌, refl, ap}
 use Prim.Native.Nat.{ℕ}
-use mathlib.Core.Option.{Option, some, none as nothing}
 use mathlib.Core.List.{List, [], ◌∷◌}
 use Rattle.cells.specs.declared.CellCount.{CellCount}
 use Rattle.fdt.specs.Tree.{Property, Nodes, none, node}
@@ -91,8 +91,8 @@ module _ {free : Free} {t : Nodes} (k : Unread free t) where
   -- ── The console, of this tree: none of its aliases is free ──
   aliased_veil : (o : Option (List ℕ)) → aliased (veil_k free t) o ≡ veil_k free (aliased t o)
   unfolding veil_k
-  aliased_veil nothing = refl
-  aliased_veil (some path) = path_veil free t path
+  aliased_veil None = refl
+  aliased_veil (Some path) = path_veil free t path
 
   named_veil : (s : List ℕ) → named (veil_k free t) s ≡ veil_k free (named t s)
   unfolding named
@@ -102,8 +102,8 @@ module _ {free : Free} {t : Nodes} (k : Unread free t) where
 
   by_veil : (o : Option (List ℕ)) → stdout_by (veil_k free t) o ≡ veil_k free (stdout_by t o)
   unfolding veil_k
-  by_veil nothing = refl
-  by_veil (some s) = named_veil (before_colon s)
+  by_veil None = refl
+  by_veil (Some s) = named_veil (before_colon s)
 
   stdout_veil : stdout_in (veil_k free t) ≡ veil_k free (stdout_in t)
   unfolding stdout_in

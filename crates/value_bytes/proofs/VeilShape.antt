@@ -1,10 +1,10 @@
 -- The veil keeps a tree's shape: what a step, a name, a path or a trail leads to in the veiled tree is the veil of what it leads to in the
 -- tree; which names a node has properties of is the same, and properties none of which is free stay as they are. From the laws of
 -- ReadVeil on one row of nodes. Assumes nothing.
+use Rattle.std.specs.Prelude.{Some}
 use mathlib.Core.Path.{◌≡◌, refl, sym, ◌∙◌, ap, subst}
 use Prim.Native.Nat.{ℕ}
 use mathlib.Core.Bool.{Bool, true, false, cond}
-use mathlib.Core.Option.{some}
 use mathlib.Core.List.{List, [], ◌∷◌}
 use lib.Dec.{eqb}
 use Rattle.fdt.specs.Tree.{Property, Nodes, none, node}
@@ -84,7 +84,7 @@ module _ (free : Free) where
   there_veil name (x ∷ ps) = go (same_bytes x.name name) _ (there_veil name ps)
     where
       go : (b : Bool) (v : List ℕ) → is_there (value_of name (veil_p free ps)) ≡ is_there (value_of name ps)
-          → is_there (cond b (some v) (value_of name (veil_p free ps))) ≡ is_there (cond b (some x.value) (value_of name ps))
+          → is_there (cond b (Some v) (value_of name (veil_p free ps))) ≡ is_there (cond b (Some x.value) (value_of name ps))
       go true v e = refl
       go false v e = e
 

@@ -1,9 +1,6 @@
--- `same_claims` is safe and ends: the steps fall, and no more claims are seen than there are steps.
-use Prim.Native.Nat.{◌+◌, ◌≤◌}
+-- In `same_claims` no more claims are seen than steps are made.
+use Prim.Native.Nat.{◌≤◌}
 use Rattle.claims_replay.proofs.same_claims.Given as goal
 
-abbrev pub invariant-loop-steps : goal.invariant-loop-steps
-invariant-loop-steps l = l.seen + l.steps ≤ 1048576
-
-abbrev pub decreases-loop-steps : goal.decreases-loop-steps
-decreases-loop-steps l = l.steps
+abbrev pub invariant-loop : goal.invariant-loop
+invariant-loop l = l.seen ≤ l.counter

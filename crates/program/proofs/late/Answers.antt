@@ -4,8 +4,8 @@ use Rattle.program.proofs.late.Goals as goal
 
 pub returns-clause-text : goal.returns-clause-text
 returns-clause-text g c =
-    reported_late _ _ _ _ _ _ _ _ _ _ (search rules) c.if-n-gt262144.false c.in-Held.ensures.bytes c.late-k.ensures.writes c.write_all.ensures.bytes
+    reported_late _ _ _ _ _ _ _ _ _ _ (search rules) c.if-n-gt262144.false c.in_ok-n.ensures.bytes c.late-k.ensures.writes c.write_all.ensures.bytes
 
 pub returns-clause-long : goal.returns-clause-long
 returns-clause-long g c =
-    refused_long _ _ _ _ _ (search rules) c.if-n-gt262144.false c.in-Held.ensures.bytes
+    refused_long _ _ _ _ _ (search rules) c.if-n-gt262144.false c.in_ok-n.ensures.bytes

@@ -4,4 +4,4 @@ use Rattle.program.proofs.report.Goals as goal
 
 pub returns-clause-text : goal.returns-clause-text
 returns-clause-text g c =
-    reported _ _ _ _ _ _ _ _ _ _ (search rules) c.in-Held.ensures.held.0 c.in-Held.ensures.bytes c.report-k.ensures.writes c.write_all.ensures.bytes
+    reported _ _ _ _ _ _ _ _ _ _ (search rules) c.in_ok-n.ensures.held.0 c.in_ok-n.ensures.bytes c.report-k.ensures.writes c.write_all.ensures.bytes

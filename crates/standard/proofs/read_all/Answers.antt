@@ -11,6 +11,6 @@ loop-have-preserved g c =
     let from = c.loop-have.have in
     let room = length c.loop-have.space - from in
     let within = c.loop-have.invariant.0 in
-    let part = slice_range_put_mid from room c.in-Held.more c.loop-have.space c.read_some.new.space within c.in-Held.ensures.held.0 in
-    let joined = take_split from (from + c.in-Held.more) c.loop-have.space (put_mid from room c.loop-have.space c.read_some.new.space) (omega arith) (take-put_mid_below _ _ _ _ _ (le_refl _) within) in
-    (search rules, search rules, subst (Consumes _ _) (ap (λ l. take from c.loop-have.space ++ l) (sym part) ∙ joined) (Consumes-trans _ _ _ _ _ c.loop-have.invariant.2 c.in-Held.ensures.bytes.0))
+    let part = slice_range_put_mid from room c.in_ok-more.more c.loop-have.space c.read_some.new.space within c.in_ok-more.ensures.held.0 in
+    let joined = take_split from (from + c.in_ok-more.more) c.loop-have.space (put_mid from room c.loop-have.space c.read_some.new.space) (omega arith) (take-put_mid_below _ _ _ _ _ (le_refl _) within) in
+    (search rules, search rules, subst (Consumes _ _) (ap (λ l. take from c.loop-have.space ++ l) (sym part) ∙ joined) (Consumes-trans _ _ _ _ _ c.loop-have.invariant.2 c.in_ok-more.ensures.bytes.0))

@@ -1,8 +1,0 @@
--- `finds_properties` is safe and ends: the turns fall.
-use Rattle.trees.proofs.finds_properties.Given as goal
-
-abbrev pub invariant-loop-turns : goal.invariant-loop-turns
-invariant-loop-turns l = Unit {0}
-
-abbrev pub decreases-loop-turns : goal.decreases-loop-turns
-decreases-loop-turns l = l.turns
