@@ -6,7 +6,7 @@ use native.Mathlib.Omega.{arith}
 use native.Mathlib.Nat.{add_assoc}
 use lib.ListN.{length, take, drop, length-append, length-take}
 use lib.Seq.{take-paste, drop-paste, length-paste, take-length, drop-drop}
-use Rattle.pen.specs.Writing.{Writes, Put}
+use Rattle.pen.specs.Writing.{Writes, Lands, Put}
 
 -- ── One text behind the other ──
 pub same_text : {a : List ℕ} {at : ℕ} {x y b : List ℕ} {q : ℕ} → Writes a at x b q → x ≡ y → Writes a at y b q
@@ -50,16 +50,16 @@ module _ {a : List ℕ} {at : ℕ} {x b : List ℕ} {q : ℕ} (first : Writes a 
         }
 
 -- ── Texts that are put one behind the other, where there is room for all of them ──
--- a text is put there, if there is room for it
-abbrev pub Lands : List ℕ → ℕ → List ℕ → List ℕ → ℕ → Type 0
-Lands a at x b r = at + length x ≤ length a → Writes a at x b r
-
-pub and_then_lem : {a : List ℕ} {at : ℕ} {x b : List ℕ} {q : ℕ} {y c : List ℕ} {r : ℕ} → Put a at x b q → Lands b q y c r → Lands a at (x ++ y) c r
-and_then_lem {a} {at} {x} {b} {q} {y} p k h =
+pub lands_append : {a : List ℕ} {at : ℕ} {x b : List ℕ} {q : ℕ} {y c : List ℕ} {r : ℕ} → Lands a at x b q → Lands b q y c r
+    → Lands a at (x ++ y) c r
+lands_append {a} {at} {x} {b} {q} {y} f k h =
     let n = length-append x y in
-    let w = p.fits (omega arith) in
+    let w = f (omega arith) in
     let l = kept w (omega arith) in
     writes_append w (k (omega arith)) (omega arith)
+
+pub and_then_lem : {a : List ℕ} {at : ℕ} {x b : List ℕ} {q : ℕ} {y c : List ℕ} {r : ℕ} → Put a at x b q → Lands b q y c r → Lands a at (x ++ y) c r
+and_then_lem p k = lands_append p.fits k
 
 pub as_text : {a : List ℕ} {at : ℕ} {x y b : List ℕ} {r : ℕ} → x ≡ y → Lands a at x b r → Lands a at y b r
 as_text {a} {at} {x} {y} {b} {r} e k = subst (λ (t : List ℕ). Lands a at t b r) e k
@@ -72,3 +72,7 @@ module _ {a x b : List ℕ} {q : ℕ} (w : Writes a 0 x b q) where
 
   pub text_inside : q ≤ length b
   text_inside = omega (arith, text_length, length-take q b)
+
+  -- and what is text is the text
+  pub text_taken : take q b ≡ x
+  text_taken = front w (omega arith)

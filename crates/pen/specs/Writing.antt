@@ -7,6 +7,10 @@ pub record Writes (out : List ℕ) (at : ℕ) (text out' : List ℕ) (r : ℕ) :
   pub put : out' ≡ paste out at text (length text)
   pub end : r ≡ at + length text
 
+-- it is put there if there is room for it
+abbrev pub Lands : List ℕ → ℕ → List ℕ → List ℕ → ℕ → Type 0
+Lands out at text out' r = at + length text ≤ length out → Writes out at text out' r
+
 -- so where there is room for the text from there on; where there is none, nothing is put, and r is the place itself
 pub record Put (out : List ℕ) (at : ℕ) (text out' : List ℕ) (r : ℕ) : Type 0 where
   pub fits : at + length text ≤ length out → Writes out at text out' r

@@ -8,8 +8,8 @@ use native.Mathlib.Decide.{dec_le}
 use Rattle.standard.specs.declared.Failure.{Failure}
 use Rattle.report_text.specs.Text.{report_text}
 use Rattle.report_text.specs.LateText.{late_text}
-use Rattle.report_text.specs.Writing.{Writes}
-use Rattle.report_text.proofs.WritingLaws.{text_taken}
+use Rattle.pen.specs.Writing.{Writes}
+use Rattle.pen.proofs.WritingLaws.{text_taken}
 use Rattle.program.specs.Whole.{lent_slots, Reports, ReportsLate, RefusesLong}
 
 -- a space that is full holds the first bytes of what was there, and one with room to spare holds them all

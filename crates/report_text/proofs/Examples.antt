@@ -9,7 +9,8 @@ use lib.Ieee.{to_bits}
 use Rattle.sheet.specs.Share.{quotient, counted}
 use Rattle.sheet.specs.Sheet.{sheet_of}
 use Rattle.startup.specs.declared.Refusal.TheVariants.{BadOrder}
-use Rattle.report_text.specs.Text.{width_by, decimal_text, hex_text, count_line, area_line, area_lines, share_text, pages_line, refused_line, text_of}
+use Rattle.figures.specs.Figures.{width_by, decimal_text, hex_text}
+use Rattle.report_text.specs.Text.{count_line, area_line, area_lines, share_text, pages_line, refused_line, text_of}
 
 -- `areas 3`
 abbrev count : List ℕ

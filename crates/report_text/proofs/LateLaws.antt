@@ -1,11 +1,12 @@
--- Laws of the text of late claims: which line is the last, and the whole text by what the build reported.
+-- Laws of the text of late claims: which line is the last, how long the lines are, and the whole text by what the build reported.
 -- Assumes nothing.
 use Rattle.late_claim.specs.declared.LateRefusal.{LateRefusal}
-use Rattle.std.specs.Prelude.{Result, Err}
+use Rattle.std.specs.Prelude.{Result, Ok, Err}
 use mathlib.Core.Path.{◌≡◌, sym, ap, ◌∙◌}
-use mathlib.Core.List.{List, ◌++◌}
-use Prim.Native.Nat.{ℕ, ◌-◌, ◌/◌, min}
-use lib.ListN.{length, take, drop, length-drop}
+use mathlib.Core.List.{List, [], ◌∷◌, ◌++◌}
+use Prim.Native.Nat.{ℕ, ◌-◌, ◌/◌, ◌≤◌, min}
+use native.Mathlib.Omega.{arith}
+use lib.ListN.{length, take, drop, length-drop, length-append}
 use lib.Seq.{take-length}
 use Rattle.page.specs.Round.{Page}
 use Rattle.memory.specs.Made.{Made}
@@ -18,7 +19,10 @@ use Rattle.startup.specs.Verdict.{refusal_number}
 use Rattle.startup.specs.Report.{report_of, slots_after, reported}
 use Rattle.startup.specs.Start.{map_left, Starts}
 use Rattle.startup.proofs.StartLaws.{left_made}
-use Rattle.report_text.specs.Text.{count_line, area_lines, refused_line}
+use Rattle.figures.specs.Figures.{decimal_text, labelled}
+use Rattle.figures.proofs.DigitsLaws.{decimal_length}
+use Rattle.report_text.specs.Text.{newline, count_line, area_lines, refused_line}
+use Rattle.report_text.proofs.TextLaws.{lines_length}
 use Rattle.late_claim.specs.Late.{late_number}
 use Rattle.late_claim.proofs.Claiming.{zero_done, other}
 use Rattle.late_run.specs.declared.LateRun.{LateRun}
@@ -39,6 +43,18 @@ pub lines_of_lem : (n : ℕ) {k : ℕ} (l : List ℕ) (a : Result Unit LateRefus
 unfolding lines_of
 lines_of_lem n {k} l a i slots is =
     ap (λ (j : ℕ). count_line n ++ (area_lines l j 0 ++ last_line a i)) (is ∙ ap (λ (m : ℕ). min n (m / 2)) (sym slots))
+
+last_length : (a : Result Unit LateRefusal) (i : ℕ) → length (last_line a i) ≤ 53
+unfolding made_line refused_at_line
+last_length (Ok u) i = omega (arith, length-append (decimal_text i) newline, decimal_length i)
+last_length (Err r) i =
+    let k = late_number (Err r) in
+    let behind = labelled (32 ∷ 97 ∷ 116 ∷ 32 ∷ []) i ++ newline in
+    omega (arith, length-append (decimal_text k) behind, length-append (decimal_text i) newline, decimal_length k, decimal_length i)
+
+pub run_length : (n : ℕ) (l : List ℕ) (a : Result Unit LateRefusal) (i : ℕ) → length l ≡ 1024 → length (lines_of n l a i) ≤ 17500
+unfolding lines_of
+run_length n l a i slots = lines_length l n (last_line a i) slots (omega (arith, last_length a i))
 
 -- ── The whole: e is where the file ends, x what the build gave, and l' the slots then ──
 module _ {p : ℕ} (s : List ℕ) {l l' : List ℕ} {e : ℕ} {x : Start} (end : e ≡ file_end s) (starts : Starts p (take e s) l l' x) where

@@ -1,10 +1,10 @@
 -- Laws of the report's lines: how long they are, the share's text at each answer, one area more behind the others and the loop that puts
--- them; and the whole text at each report. Assumes nothing.
+-- them; and the whole text at each report, which a buffer of 17500 bytes holds. Assumes nothing.
 use Rattle.startup.specs.declared.Summary.{Summary}
-use Rattle.std.specs.Prelude.{Option, Some, None, ℕ, Result, Err}
+use Rattle.std.specs.Prelude.{Option, Some, None, ℕ, Result, Ok, Err}
 use mathlib.Core.Path.{◌≡◌, refl, sym, ap, ◌∙◌}
 use mathlib.Core.List.{List, [], ◌++◌, append_assoc, append-nil}
-use Prim.Native.Nat.{ℕ, zero, suc, ◌+◌, ◌*◌, ◌/◌, ◌≤◌, ◌<◌, min}
+use Prim.Native.Nat.{ℕ, zero, suc, ◌+◌, ◌*◌, ◌/◌, ◌≤◌, min}
 use native.Mathlib.Omega.{arith}
 use native.Mathlib.Nat.{zero-add, add-zero}
 use native.Mathlib.Numerals.{add-one}
@@ -12,13 +12,15 @@ use lib.ListN.{length, get_or, length-append}
 use lib.Seq.{paste-zero}
 use Rattle.sheet.specs.declared.PageSheet.{PageSheet}
 use Rattle.sheet.specs.Share.{share_of, bits_of}
+use Rattle.sheet.specs.Sheet.{slots_to}
 use Rattle.startup.specs.declared.Refusal.{Refusal}
 use Rattle.startup.specs.Verdict.{refusal_number}
 use Rattle.startup.specs.Report.{Reports, reported}
-use Rattle.report_text.specs.Text.{hex_text, bits_text, share_text, newline, space, decimal_text, count_line, area_line, area_lines, pages_line, refused_line, text_of, report_text}
-use Rattle.report_text.specs.Writing.{Writes}
-use Rattle.report_text.proofs.DigitsLaws.{hex_length, decimal_length}
-use Rattle.report_text.proofs.WritingLaws.{same_text, kept, writes_append}
+use Rattle.figures.specs.Figures.{decimal_text, hex_text}
+use Rattle.figures.proofs.DigitsLaws.{hex_length, decimal_length}
+use Rattle.report_text.specs.Text.{bits_text, share_text, newline, space, count_line, area_line, area_lines, pages_line, refused_line, text_of, report_text}
+use Rattle.pen.specs.Writing.{Writes, Lands}
+use Rattle.pen.proofs.WritingLaws.{lands_append, as_text}
 
 -- ── The share ──
 bits_length : (r : Option ℕ) → length (bits_text r) ≤ 16
@@ -75,35 +77,57 @@ lines_more l n =
     ∙ sym (lines_at l n 0) ∙ ap (λ (k : ℕ). area_lines l k 0) (sym (add-one n))
 
 -- ── The loop of `put_areas`: the first i areas are put ──
-pub record Listing (out₀ : List ℕ) (at : ℕ) (slots : List ℕ) (n : ℕ) (out : List ℕ) (p i : ℕ) : Type 0 where
-  pub upto : i ≤ n
-  pub size : length out ≡ length out₀
-  pub is : Writes out₀ at (area_lines slots i 0) out p
-
-module _ {out₀ : List ℕ} {at : ℕ} {slots : List ℕ} {n : ℕ} where
-  pub begins : Listing out₀ at slots n out₀ at 0
+module _ (slots : List ℕ) {out₀ : List ℕ} {at : ℕ} where
+  pub begins : Lands out₀ at (area_lines slots 0 0) out₀ at
   unfolding area_lines
-  begins = record { upto = omega arith; size = refl; is = record { put = paste-zero out₀ at []; end = omega arith } }
+  begins h = record { put = paste-zero out₀ at []; end = omega arith }
 
-  module _ {out : List ℕ} {p i : ℕ} (inv : Listing out₀ at slots n out p i) where
-    pub room : at + n * 34 ≤ length out₀ → i < n → p + 34 ≤ length out
-    room fits lt =
-        let size = inv.size in
-        let end = inv.is.end in
-        omega (arith, areas_length slots i 0)
+  pub more : (i : ℕ) {out out' : List ℕ} {p p' : ℕ} → Lands out₀ at (area_lines slots i 0) out p
+      → Lands out p (area_line (get_or slots (i + i) 0) (get_or slots (i + i + 1) 0)) out' p'
+      → Lands out₀ at (area_lines slots (i + 1) 0) out' p'
+  more i inv w = as_text (lines_more slots i) (lands_append inv w)
 
-    pub more : {out' : List ℕ} {p' : ℕ} → Writes out p (area_line (get_or slots (i + i) 0) (get_or slots (i + i + 1) 0)) out' p'
-        → at + n * 34 ≤ length out₀ → i < n → Listing out₀ at slots n out' p' (i + 1)
-    more w fits lt =
-        record {
-          upto = omega arith;
-          size = kept w (rw area_length (room fits lt)) ∙ inv.size;
-          is = same_text (writes_append inv.is w (omega arith)) (lines_more slots i);
-        }
-
+-- ── How long a text can be ──
 pub count_length : (n : ℕ) → length (count_line n) ≤ 27
 unfolding count_line
 count_length n = omega (arith, length-append (decimal_text n) newline, decimal_length n)
+
+pages_length : (s : PageSheet) → length (pages_line s) ≤ 65
+unfolding pages_line
+pages_length s =
+    let share = share_text s ++ newline in
+    let usable = decimal_text s.usable ++ (space ++ share) in
+    omega (
+      arith,
+      length-append (decimal_text s.free) (space ++ usable),
+      length-append (decimal_text s.usable) (space ++ share),
+      length-append (share_text s) newline,
+      decimal_length s.free,
+      decimal_length s.usable,
+      share_length s,
+    )
+
+pub refused_length : (n : ℕ) → length (refused_line n) ≤ 29
+unfolding refused_line
+refused_length n = omega (arith, length-append (decimal_text n) newline, decimal_length n)
+
+-- the count, the areas and a last line t
+pub lines_length : (l : List ℕ) (n : ℕ) (t : List ℕ) → length l ≡ 1024 → length t ≤ 65
+    → length (count_line n ++ (area_lines l (slots_to l n) 0 ++ t)) ≤ 17500
+lines_length l n t slots few =
+    let k = slots_to l n in
+    omega (
+      arith,
+      length-append (count_line n) (area_lines l k 0 ++ t),
+      length-append (area_lines l k 0) t,
+      count_length n,
+      areas_length l k 0,
+    )
+
+pub text_length : (r : Result Summary Refusal) (l : List ℕ) → length l ≡ 1024 → length (text_of r l) ≤ 17500
+unfolding text_of
+text_length (Ok x) l slots = lines_length l x.count (pages_line x.sheet) slots (pages_length x.sheet)
+text_length (Err r) l slots = omega (arith, refused_length (refusal_number r))
 
 -- ── The whole text ──
 module _ {report : (Result Summary Refusal)} (l : List ℕ) where

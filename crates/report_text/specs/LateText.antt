@@ -9,13 +9,10 @@ use Rattle.order.specs.Layout.{file_end}
 use Rattle.startup.specs.Verdict.{refusal_number}
 use Rattle.startup.specs.Report.{report_of, slots_after}
 use Rattle.startup.specs.Start.{map_left}
-use Rattle.report_text.specs.Text.{newline, decimal_text, count_line, area_lines, refused_line}
+use Rattle.figures.specs.Figures.{labelled}
+use Rattle.report_text.specs.Text.{newline, count_line, area_lines, refused_line}
 use Rattle.late_claim.specs.Late.{late_number, on_done}
 use Rattle.late_run.specs.Run.{Run, late_all}
-
--- a word and a number, decimal
-abbrev pub labelled : List ℕ → ℕ → List ℕ
-labelled word n = word ++ decimal_text n
 
 -- `late K` "with the number of claims made"
 unfoldable pub made_line : ℕ → List ℕ

@@ -1,8 +1,8 @@
 -- The report's text, byte for byte: document 01, "Order file and report".
 use Rattle.startup.specs.declared.Refusal.{Refusal}
 use Rattle.startup.specs.declared.Summary.{Summary}
-use Rattle.std.specs.Prelude.{ℕ, zero, suc, ◌+◌, ◌/◌, cond, List, [], ◌∷◌, ◌++◌, ltb, get_or, Option, Some, None, Result, Ok, Err}
-use Rattle.io.specs.Digits.{last_digits}
+use Rattle.std.specs.Prelude.{ℕ, zero, suc, ◌+◌, List, [], ◌∷◌, ◌++◌, get_or, Option, Some, None, Result, Ok, Err}
+use Rattle.figures.specs.Figures.{decimal_text, hex_text}
 use Rattle.sheet.specs.declared.PageSheet.{PageSheet}
 use Rattle.sheet.specs.Share.{share_of, bits_of}
 use Rattle.sheet.specs.Sheet.{slots_to}
@@ -15,20 +15,7 @@ newline = 10 ∷ []
 abbrev pub space : List ℕ
 space = 32 ∷ []
 
--- how many decimal digits a number has, if not more than k
-unfoldable pub width_by : ℕ → ℕ → ℕ
-width_by zero n = 0
-width_by (suc k) n = cond (ltb n 10) 1 (suc (width_by k (n / 10)))
-
--- "decimal": no zero in front; a 64-bit number has at most 20 digits
-unfoldable pub decimal_text : ℕ → List ℕ
-decimal_text n = last_digits 10 (width_by 20 n) n
-
--- "16 hex digits"
-unfoldable pub hex_text : ℕ → List ℕ
-hex_text n = last_digits 16 16 n
-
--- `areas `, "the count, decimal"
+-- "decimal" and "16 hex digits" are those of Figures: `areas `, "the count, decimal"
 unfoldable pub count_line : ℕ → List ℕ
 count_line n = (97 ∷ 114 ∷ 101 ∷ 97 ∷ 115 ∷ 32 ∷ []) ++ (decimal_text n ++ newline)
 

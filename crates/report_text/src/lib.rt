@@ -2,51 +2,22 @@
 // behind an order file: the areas when they are made, and how many were, or which was refused.
 #![tactic(auto)]
 
-ghost use Rattle.std.specs.Prelude.{◌≡◌, ◌+◌, ◌*◌, ◌≤◌, min, length};
-ghost use Rattle.report_text.specs.Text.{decimal_text, hex_text, share_text, area_line, area_lines, count_line, pages_line, refused_line, text_of, report_text};
-ghost use Rattle.report_text.specs.LateText.{labelled, last_line, lines_of, late_text, late_slots};
-ghost use Rattle.report_text.specs.Writing.{Writes};
+ghost use Rattle.std.specs.Prelude.{◌≡◌, ◌+◌, ◌≤◌, min, length};
+ghost use Rattle.pen.specs.Writing.{Writes, Lands};
+ghost use Rattle.report_text.specs.Text.{share_text, area_line, area_lines, count_line, pages_line, refused_line, text_of, report_text};
+ghost use Rattle.report_text.specs.LateText.{last_line, lines_of, late_text, late_slots};
 ghost use Rattle.startup.specs.Report.{slots_after};
 
+use figures::{put_decimal, put_hex, put_labelled};
 use late_claim::LateRefusal;
 use numbers::Numbered;
+use pen::put;
 use sheet::PageSheet;
 use startup::{Refusal, Summary};
 
-// Puts some bytes at a place of the buffer, and answers the place behind them.
-fn put(out: &mut [u8], at: usize, bytes: &[u8]) -> usize
-    requires { at + length bytes.now ≤ length out.old }
-    ensures { Writes out.old at bytes.now out.new result }
-{
-    let end = at + bytes.len();
-    out[at..end].copy_from_slice(bytes);
-    end
-}
-
-// A number's decimal digits.
-fn put_decimal(out: &mut [u8], at: usize, n: u64) -> usize
-    requires { at + 20 ≤ length out.old }
-    ensures { Writes out.old at (decimal_text n) out.new result }
-{
-    let mut digits = [0u8; 20];
-    let k = io::decimal(n, &mut digits);
-    put(out, at, &digits[..k])
-}
-
-// A number's 16 hex digits.
-fn put_hex(out: &mut [u8], at: usize, n: u64) -> usize
-    requires { at + 16 ≤ length out.old }
-    ensures { Writes out.old at (hex_text n) out.new result }
-{
-    let mut digits = [0u8; 16];
-    let k = io::hex(n, 16, &mut digits);
-    put(out, at, &digits[..k])
-}
-
 // The share's bits, or `none`.
 fn put_share(out: &mut [u8], at: usize, sheet: PageSheet) -> usize
-    requires { at + 16 ≤ length out.old }
-    ensures { Writes out.old at (share_text sheet) out.new result }
+    ensures { Lands out.old at (share_text sheet) out.new result }
 {
     match sheet::share_bits(sheet.free, sheet.usable) {
         Some(bits) => put_hex(out, at, bits),
@@ -56,8 +27,7 @@ fn put_share(out: &mut [u8], at: usize, sheet: PageSheet) -> usize
 
 // One area: its base and its size.
 fn put_area(out: &mut [u8], at: usize, base: u64, size: u64) -> usize
-    requires { at + 34 ≤ length out.old }
-    ensures { Writes out.old at (area_line base size) out.new result }
+    ensures { Lands out.old at (area_line base size) out.new result }
 {
     let a = put_hex(out, at, base);
     let b = put(out, a, b" ");
@@ -67,8 +37,8 @@ fn put_area(out: &mut [u8], at: usize, base: u64, size: u64) -> usize
 
 // The first n areas of the slots, a line each.
 fn put_areas(out: &mut [u8], at: usize, slots: &[u64], n: usize) -> usize
-    requires { (n + n ≤ length slots.now) × (at + n * 34 ≤ length out.old) }
-    ensures { Writes out.old at (area_lines slots.now n 0) out.new result }
+    requires { n + n ≤ length slots.now }
+    ensures { Lands out.old at (area_lines slots.now n 0) out.new result }
 {
     let mut p = at;
     for i in 0..n {
@@ -78,8 +48,7 @@ fn put_areas(out: &mut [u8], at: usize, slots: &[u64], n: usize) -> usize
 }
 
 fn put_count(out: &mut [u8], at: usize, n: usize) -> usize
-    requires { at + 27 ≤ length out.old }
-    ensures { Writes out.old at (count_line n) out.new result }
+    ensures { Lands out.old at (count_line n) out.new result }
 {
     let a = put(out, at, b"areas ");
     let b = put_decimal(out, a, n as u64);
@@ -87,8 +56,7 @@ fn put_count(out: &mut [u8], at: usize, n: usize) -> usize
 }
 
 fn put_pages(out: &mut [u8], at: usize, sheet: PageSheet) -> usize
-    requires { at + 65 ≤ length out.old }
-    ensures { Writes out.old at (pages_line sheet) out.new result }
+    ensures { Lands out.old at (pages_line sheet) out.new result }
 {
     let a = put(out, at, b"pages ");
     let b = put_decimal(out, a, sheet.free);
@@ -100,8 +68,7 @@ fn put_pages(out: &mut [u8], at: usize, sheet: PageSheet) -> usize
 }
 
 fn put_refusal(out: &mut [u8], number: u8) -> usize
-    requires { 29 ≤ length out.old }
-    ensures { Writes out.old 0 (refused_line number) out.new result }
+    ensures { Lands out.old 0 (refused_line number) out.new result }
 {
     let a = put(out, 0, b"refused ");
     let b = put_decimal(out, a, number as u64);
@@ -117,11 +84,7 @@ fn listed(n: usize) -> usize
 
 // The text of a report and the slots that it was made in, at the start of the buffer; the rest of the buffer stays. Answers how long the
 // text is. The buffer holds the longest text that there can be: 512 areas, and numbers of 20 digits.
-pub fn text(
-    report: Result<Summary, Refusal>,
-    slots: &[u64; 1024],
-    out: &mut [u8; 17500],
-) -> usize
+pub fn text(report: Result<Summary, Refusal>, slots: &[u64; 1024], out: &mut [u8; 17500]) -> usize
     ensures { Writes out.old 0 (text_of report slots.now) out.new result }
 {
     match report {
@@ -143,19 +106,9 @@ pub fn report(file: &[u8], slots: &mut [u64; 1024], out: &mut [u8; 17500]) -> us
     text(answer, slots, out)
 }
 
-// A word and a number.
-fn put_labelled(out: &mut [u8], at: usize, word: &[u8], n: u64) -> usize
-    requires { at + length word.now + 20 ≤ length out.old }
-    ensures { Writes out.old at (labelled word.now n) out.new result }
-{
-    let a = put(out, at, word);
-    put_decimal(out, a, n)
-}
-
 // How many claims were made; or the number of the refusal and the index of its claim.
 fn put_last(out: &mut [u8], at: usize, answer: Result<(), LateRefusal>, index: usize) -> usize
-    requires { at + 53 ≤ length out.old }
-    ensures { Writes out.old at (last_line answer index) out.new result }
+    ensures { Lands out.old at (last_line answer index) out.new result }
 {
     let number = answer.number();
     if number == 0 {

@@ -4,7 +4,7 @@
 ghost use Rattle.std.specs.Prelude.{◌≡◌, replicate};
 ghost use Rattle.startup.specs.Report.{report_number, report_of, slots_after};
 ghost use Rattle.report_text.specs.Text.{report_text};
-ghost use Rattle.report_text.specs.Writing.{Writes};
+ghost use Rattle.pen.specs.Writing.{Writes};
 ghost use Rattle.entry.specs.Claim.{claim};
 ghost use Rattle.memory.specs.Made.{Made};
 ghost use Rattle.late_claim.specs.Late.{late_of};

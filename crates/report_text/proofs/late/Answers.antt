@@ -2,7 +2,8 @@
 use native.Mathlib.Omega.{arith}
 use lib.ListN.{length-take}
 use Rattle.page.proofs.Laws.{page}
-use Rattle.report_text.proofs.WritingLaws.{same_text}
+use Rattle.pen.proofs.WritingLaws.{same_text}
+use Rattle.report_text.proofs.TextLaws.{refused_length}
 use Rattle.report_text.proofs.LateLaws.{start_made, text_refused, slots_refused, text_done, slots_done}
 use Rattle.report_text.proofs.late.Goals as goal
 
@@ -10,24 +11,26 @@ pub slice_bounds-init_map-end : goal.slice_bounds-init_map-end
 slice_bounds-init_map-end c = omega (arith, length-take c.file_end-end.result c.args.input.now, c.file_end-end.ensures.upper_bound)
 
 pub claim_all-run-requires : goal.claim_all-run-requires
-claim_all-run-requires c =
-    let b = c in
-    let e = b in
-    start_made e.args.input.now e.file_end-end.ensures.value b.init_map-start.ensures page
+claim_all-run-requires c = start_made c.args.input.now c.file_end-end.ensures.value c.init_map-start.ensures page
 
 pub returns-in-Err : goal.returns-in-Err
 returns-in-Err c =
-    let b = c in
-    let e = b in
-    let s = e.args.input.now in
-    let d = c.in-Err.is in
-    record { writes = same_text c.put_refusal.ensures (text_refused s e.file_end-end.ensures.value b.init_map-start.ensures d c.number.ensures); slots_after = slots_refused s e.file_end-end.ensures.value b.init_map-start.ensures d }
+    let s = c.args.input.now in
+    let end = c.file_end-end.ensures.value in
+    let starts = c.init_map-start.ensures in
+    let written = c.put_refusal.ensures (omega (arith, refused_length c.number.result)) in
+    record {
+      writes = same_text written (text_refused s end starts c.in-Err.is c.number.ensures);
+      slots_after = slots_refused s end starts c.in-Err.is;
+    }
 
 pub returns-in-Ok : goal.returns-in-Ok
 returns-in-Ok c =
-    let r = c in
-    let d = r in
-    let b = d in
-    let e = b in
-    let s = e.args.input.now in
-    record { writes = same_text c.put_run.ensures (text_done s e.file_end-end.ensures.value b.init_map-start.ensures d.in-Ok.is r.claim_all-run.ensures); slots_after = slots_done s e.file_end-end.ensures.value b.init_map-start.ensures d.in-Ok.is r.claim_all-run.ensures }
+    let s = c.args.input.now in
+    let end = c.file_end-end.ensures.value in
+    let starts = c.init_map-start.ensures in
+    let run = c.claim_all-run.ensures in
+    record {
+      writes = same_text c.put_run.ensures (text_done s end starts c.in-Ok.is run);
+      slots_after = slots_done s end starts c.in-Ok.is run;
+    }

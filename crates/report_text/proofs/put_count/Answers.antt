@@ -1,17 +1,8 @@
 -- `report_text::put_count` meets its contract: its texts stand one behind the other (WritingLaws). Assumes nothing.
-use native.Mathlib.Omega.{arith}
 use Rattle.report_text.specs.Text.{count_line}
-use Rattle.report_text.proofs.DigitsLaws.{decimal_length}
-use Rattle.report_text.proofs.WritingLaws.{writes_append}
+use Rattle.pen.proofs.WritingLaws.{and_then_lem}
 use Rattle.report_text.proofs.put_count.Goals as goal
-
-pub put-requires : goal.put-requires
-put-requires c = omega (arith, decimal_length c.args.n)
 
 pub returns : goal.returns
 unfolding count_line
-returns c =
-    let d = c in
-    let e = d in
-    let few = decimal_length e.args.n in
-    writes_append e.put-a.ensures (writes_append d.put_decimal-b.ensures c.put.ensures (omega arith)) (omega arith)
+returns c = and_then_lem c.put-a.ensures (and_then_lem c.put_decimal-b.ensures c.put.ensures.fits)
