@@ -7,7 +7,6 @@ ghost use Rattle.memory.specs.Made.{Made};
 
 use memory::{MemoryMap, Registered};
 use numbers::Numbered;
-use standard::Input;
 use std::io;
 use std::process::ExitCode;
 
@@ -48,7 +47,7 @@ fn print_list<P: Print>(out: &P, list: &[u8]) -> io::Result<()> {
 
 fn main(rt: HostRuntime) -> io::Result<ExitCode> {
     let mut bytes = [0u8; 65536];
-    let Input::Held(n) = standard::read_all(&mut rt.stdin(), &rt, &mut bytes) else {
+    let Ok(n) = standard::read_all(&mut rt.stdin(), &rt, &mut bytes) else {
         return Ok(ExitCode::FAILURE);
     };
     if 65536 <= n {
