@@ -27,31 +27,31 @@ pub data CutOf (r : Interval) (s e : ℕ) : Cut → Type 0 where
   is_split : s < r.lo → r.hi < e → CutOf r s e (Split (interval s r.lo) (interval r.hi e))
 
 module _ (r : Interval) (s e : ℕ) (solid : r.lo < r.hi) (some : s < e) where
-  pub gone= : r.lo ≤ s → e ≤ r.hi → cut_by r s e ≡ Gone
+  pub gone= : r.lo ≤ s → e ≤ r.hi → cut_by r (interval s e) ≡ Gone
   unfolding cut_by
   gone= p q = simp (lt-ltb r.lo e (omega arith), le-leb e r.hi q, le-leb r.lo s p)
 
-  pub before= : e ≤ r.lo → cut_by r s e ≡ Rest (interval s e)
+  pub before= : e ≤ r.lo → cut_by r (interval s e) ≡ Rest (interval s e)
   unfolding cut_by
   before= p = simp (le-ltb r.lo e p, lt-leb e s some, lt-leb r.lo s (omega arith), le-leb s r.lo (omega arith))
 
-  pub after= : r.hi ≤ s → cut_by r s e ≡ Rest (interval s e)
+  pub after= : r.hi ≤ s → cut_by r (interval s e) ≡ Rest (interval s e)
   unfolding cut_by
   after= p = simp (lt-ltb r.lo e (omega arith), lt-leb e r.hi (omega arith), lt-leb e s some, le-leb r.lo s (omega arith), le-ltb s r.hi p, lt-leb s r.lo (omega arith))
 
-  pub left= : s < r.lo → r.lo < e → e ≤ r.hi → cut_by r s e ≡ Rest (interval s r.lo)
+  pub left= : s < r.lo → r.lo < e → e ≤ r.hi → cut_by r (interval s e) ≡ Rest (interval s r.lo)
   unfolding cut_by
   left= p q t = simp (lt-ltb r.lo e q, le-leb e r.hi t, lt-leb r.lo s p, le-leb s r.lo (omega arith), le-ltb r.lo r.lo (omega arith))
 
-  pub right= : r.lo ≤ s → s < r.hi → r.hi < e → cut_by r s e ≡ Rest (interval r.hi e)
+  pub right= : r.lo ≤ s → s < r.hi → r.hi < e → cut_by r (interval s e) ≡ Rest (interval r.hi e)
   unfolding cut_by
   right= p q t = simp (lt-ltb r.lo e (omega arith), lt-leb e r.hi t, lt-leb e s some, le-leb r.lo s p, lt-ltb s r.hi q, lt-leb r.hi r.lo solid)
 
-  pub split= : s < r.lo → r.hi < e → cut_by r s e ≡ Split (interval s r.lo) (interval r.hi e)
+  pub split= : s < r.lo → r.hi < e → cut_by r (interval s e) ≡ Split (interval s r.lo) (interval r.hi e)
   unfolding cut_by
   split= p q = simp (lt-ltb r.lo e (omega arith), lt-leb e r.hi q, lt-leb e s some, lt-leb r.lo s p, le-leb s r.lo (omega arith))
 
-  pub cut_of : CutOf r s e (cut_by r s e)
+  pub cut_of : CutOf r s e (cut_by r (interval s e))
   cut_of =
       ⊎_elim (λ (p : e ≤ r.lo). rw (before= p) (is_before p))
       (λ (p : r.lo < e). ⊎_elim (λ (q : r.hi ≤ s). rw (after= q) (is_after q))
@@ -106,7 +106,7 @@ module _ (x : ℕ) (all : List Interval) (k : ℕ) (left : ℕ → ℕ → List 
   walk_right [] s e some deep solid sub = record { into = ⊎_elim (λ h. (h.0, h.1, λ i. i)) (λ z. absurd z); back = λ u v n. inl (u, v) }
   walk_right (r ∷ rs) s e some deep solid sub =
       after_right r rs s e solid.0 some deep sub (λ a b. walk left rs a b)
-      (λ a b ab dp. walk_right rs a b ab dp solid.1 (λ i. sub (inr i))) (cut_by r s e) (cut_of r s e solid.0 some)
+      (λ a b ab dp. walk_right rs a b ab dp solid.1 (λ i. sub (inr i))) (cut_by r (interval s e)) (cut_of r s e solid.0 some)
 
 carve_by_right : (x : ℕ) (k : ℕ) (all : List Interval) (s e : ℕ) → Solid all → s < e → e ≤ s + k → Right x all all s e (carve_by k all s e)
 unfolding carve_by
@@ -147,7 +147,7 @@ module _ (s₀ e₀ : ℕ) (left : ℕ → ℕ → List Interval) (left-ok : (a 
   unfolding walk
   walk_chain [] s e some lo hi solid = (le_refl s, some, le_refl e, tt)
   walk_chain (r ∷ rs) s e some lo hi solid =
-      after_chain r s e solid.0 some lo hi (λ a b. walk left rs a b) (λ a b ab al bh. walk_chain rs a b ab al bh solid.1) (cut_by r s e) (cut_of r s e solid.0 some)
+      after_chain r s e solid.0 some lo hi (λ a b. walk left rs a b) (λ a b ab al bh. walk_chain rs a b ab al bh solid.1) (cut_by r (interval s e)) (cut_of r s e solid.0 some)
 
 carve_by_chain : (k : ℕ) (all : List Interval) (s e : ℕ) → Solid all → s < e → e ≤ s + k → Chain s e (carve_by k all s e)
 unfolding carve_by
@@ -178,7 +178,7 @@ module _ (all : List Interval) (s₀ e₀ : ℕ) (left left' : ℕ → ℕ → L
   walk_same [] s e sub some lo hi solid = refl
   walk_same (r ∷ rs) s e sub some lo hi solid =
       after_same r s e (sub r (Memᴰ.head refl)) solid.0 some lo hi (λ a b. walk left rs a b) (λ a b. walk left' rs a b)
-      (λ a b ab al bh. walk_same rs a b (λ q m. sub q (Memᴰ.tail m)) ab al bh solid.1) (cut_by r s e) (cut_of r s e solid.0 some)
+      (λ a b ab al bh. walk_same rs a b (λ q m. sub q (Memᴰ.tail m)) ab al bh solid.1) (cut_by r (interval s e)) (cut_of r s e solid.0 some)
 
 -- what may bound the depth: where it is none there is no area, and it falls with each piece on the left
 record Bounds (all : List Interval) (D : ℕ → ℕ → ℕ → Type 0) : Type 0 where
@@ -244,7 +244,7 @@ module _ (all : List Interval) (s₀ e₀ : ℕ) (left : ℕ → ℕ → Type 0)
   walk_nests_lem [] s e sub some lo hi solid = tt
   walk_nests_lem (r ∷ rs) s e sub some lo hi solid =
       after_nests_lem r s e (sub r (Memᴰ.head refl)) solid.0 some lo hi (λ a b. walk_nests left rs a b)
-      (λ a b ab al bh. walk_nests_lem rs a b (λ q m. sub q (Memᴰ.tail m)) ab al bh solid.1) (cut_by r s e) (cut_of r s e solid.0 some)
+      (λ a b ab al bh. walk_nests_lem rs a b (λ q m. sub q (Memᴰ.tail m)) ab al bh solid.1) (cut_by r (interval s e)) (cut_of r s e solid.0 some)
 
 nests : (all : List Interval) (D : ℕ → ℕ → ℕ → Type 0) → Bounds all D → Solid all → (k s e : ℕ) → s < e → D k s e → Nests k all s e
 unfolding Nests

@@ -7,6 +7,7 @@ use Rattle.entry.specs.declared.MemoryEntry.{MemoryEntry}
 use Rattle.entry.specs.Entry.{overlap, meet}
 use Rattle.entry.proofs.EntryLaws.{Meets, some, none, meets}
 use Rattle.areas.specs.declared.Interval.{Interval}
+use Rattle.areas.specs.Interval.{interval}
 use Rattle.areas.specs.declared.Cut.{Cut}
 use Rattle.areas.specs.Carve.{cut_by, after, walk, carve_by, carve}
 use Rattle.areas.specs.Areas.{free_of, busy_of, carved_by, pieces, areas_in}
@@ -39,7 +40,7 @@ module _ (P Q : ℕ → Type 0) where
     unfolding walk
     walk_edges [] s e lt ps qe solid h = ((ps, qe), tt)
     walk_edges (r ∷ rs) s e lt ps qe solid h =
-        after_edges r s e lt ps qe h.0 (λ a b. walk left rs a b) (λ a b ab pa qb. walk_edges rs a b ab pa qb solid.1 h.1) (cut_by r s e) (cut_of r s e solid.0 lt)
+        after_edges r s e lt ps qe h.0 (λ a b. walk left rs a b) (λ a b ab pa qb. walk_edges rs a b ab pa qb solid.1 h.1) (cut_by r (interval s e)) (cut_of r s e solid.0 lt)
 
   module _ (busy : List Interval) (solid : Solid busy) (busy-ok : Every (Edged Q P) busy) where
     carve_by_edges : (k s e : ℕ) → s < e → P s → Q e → Every (Edged P Q) (carve_by k busy s e)

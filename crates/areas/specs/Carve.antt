@@ -24,8 +24,8 @@ cut_start r s e =
 abbrev pub cut_end : Interval → ℕ → ℕ → Cut
 cut_end r s e = cond (leb e s) Gone (cut_start r (trim_start r s) e)
 
-unfoldable pub cut_by : Interval → ℕ → ℕ → Cut
-cut_by r s e = cut_end r s (trim_end r e)
+unfoldable pub cut_by : Interval → Interval → Cut
+cut_by r a = cut_end r a.lo (trim_end r a.hi)
 
 -- what is left is carved on; of a split, the piece on the left comes first
 abbrev pub after : (ℕ → ℕ → List Interval) → (ℕ → ℕ → List Interval) → Cut → List Interval
@@ -36,7 +36,7 @@ after left go (Split a b) = left a.lo a.hi ++ go b.lo b.hi
 -- [s, e) against the reservations that are still to come, where `left` carves a piece on the left
 unfoldable pub walk : (ℕ → ℕ → List Interval) → List Interval → ℕ → ℕ → List Interval
 walk left [] s e = interval s e ∷ []
-walk left (r ∷ rs) s e = after left (λ a b. walk left rs a b) (cut_by r s e)
+walk left (r ∷ rs) s e = after left (λ a b. walk left rs a b) (cut_by r (interval s e))
 
 -- "The piece on the left is carved again from the first reservation": k bounds how deep that goes
 unfoldable pub carve_by : ℕ → List Interval → ℕ → ℕ → List Interval
@@ -58,7 +58,7 @@ after_nests left go (Split a b) = left a.lo a.hi × go b.lo b.hi
 
 unfoldable pub walk_nests : (ℕ → ℕ → Type 0) → List Interval → ℕ → ℕ → Type 0
 walk_nests left [] s e = Unit {0}
-walk_nests left (r ∷ rs) s e = after_nests left (λ a b. walk_nests left rs a b) (cut_by r s e)
+walk_nests left (r ∷ rs) s e = after_nests left (λ a b. walk_nests left rs a b) (cut_by r (interval s e))
 
 -- carving [s, e) makes at most k calls of itself one within the other, the first included
 unfoldable pub Nests : ℕ → List Interval → ℕ → ℕ → Type 0

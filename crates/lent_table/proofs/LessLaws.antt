@@ -34,7 +34,7 @@ pub less_nil : (c : Interval) → less c [] ≡ []
 unfolding less
 less_nil c = refl
 
-less_cons : (c r : Interval) (l : List Interval) → less c (r ∷ l) ≡ left_of (cut_by c r.lo r.hi) ++ less c l
+less_cons : (c r : Interval) (l : List Interval) → less c (r ∷ l) ≡ left_of (cut_by c r) ++ less c l
 unfolding less
 less_cons c r l = refl
 
@@ -73,7 +73,7 @@ module _ (c : Interval) (solid : c.lo < c.hi) where
   pub less_listed : (x : ℕ) (l : List Interval) → Solid l → Listed x (less c l) ↔ (Listed x l × (Inside x c → ⊥))
   less_listed x [] s = rw (less_nil c) (λ i. absurd i, λ h. h.0)
   less_listed x (r ∷ l) s =
-      let k = cut_by c r.lo r.hi in
+      let k = cut_by c r in
       let one = cut_listed_lem x r k (cut_of c r.lo r.hi solid s.0) in
       let more = less_listed x l s.1 in
       rw (less_cons c r l) (
@@ -85,14 +85,14 @@ module _ (c : Interval) (solid : c.lo < c.hi) where
   less_above [] a h = rw (less_nil c) tt
   less_above (r ∷ l) a h =
       rw (less_cons c r l)
-      (cut_above a r (less c l) (cut_by c r.lo r.hi) h.0 h.1 (less_above l (suc r.hi) h.2) (cut_of c r.lo r.hi solid h.1))
+      (cut_above a r (less c l) (cut_by c r) h.0 h.1 (less_above l (suc r.hi) h.2) (cut_of c r.lo r.hi solid h.1))
 
   pub less_ascends : (l : List Interval) → Ascending l → Ascending (less c l)
   less_ascends l h = less_above l 0 h
 
   -- ── Where each area lies to one side, or inside ──
   module _ (r : Interval) (l : List Interval) (some : r.lo < r.hi) where
-    cons_is : (k : Cut) → cut_by c r.lo r.hi ≡ k → less c (r ∷ l) ≡ left_of k ++ less c l
+    cons_is : (k : Cut) → cut_by c r ≡ k → less c (r ∷ l) ≡ left_of k ++ less c l
     cons_is k e = less_cons c r l ∙ ap (λ (x : Cut). left_of x ++ less c l) e
 
     pub cons_off : (r.hi ≤ c.lo) ⊎ (c.hi ≤ r.lo) → less c (r ∷ l) ≡ r ∷ less c l
@@ -138,7 +138,7 @@ module _ (c : Interval) (solid : c.lo < c.hi) where
   less_keeps [] s r i o = absurd (Memᴰ.not-nil i)
   less_keeps (q ∷ l) s r i o =
       ⊎_elim (λ e. rw (cons_off q l s.0 (rw e at o)) (Memᴰ.head e))
-      (λ j. rw (less_cons c q l) (Memᴰ.append_right (left_of (cut_by c q.lo q.hi)) (less_keeps l s.1 r j o)))
+      (λ j. rw (less_cons c q l) (Memᴰ.append_right (left_of (cut_by c q)) (less_keeps l s.1 r j o)))
       (Memᴰ.cases_cons i)
 
   -- what holds of all starts and ends, the interval's own the other way round, holds of those that are left
@@ -146,9 +146,9 @@ module _ (c : Interval) (solid : c.lo < c.hi) where
       → (r : Interval) → Memᴰ r (less c l) → P r.lo × Q r.hi
   less_edges P Q lo hi [] s f r i = absurd (Memᴰ.not-nil (rw (less_nil c) at i))
   less_edges P Q lo hi (q ∷ l) s f r i =
-      ⊎_elim (go (cut_by c q.lo q.hi) (cut_of c q.lo q.hi solid s.0))
+      ⊎_elim (go (cut_by c q) (cut_of c q.lo q.hi solid s.0))
       (λ j. less_edges P Q lo hi l s.1 (λ t k. f t (Memᴰ.tail k)) r j)
-      (Memᴰ.append_cases (left_of (cut_by c q.lo q.hi)) (rw (less_cons c q l) at i))
+      (Memᴰ.append_cases (left_of (cut_by c q)) (rw (less_cons c q l) at i))
     where
       one : P q.lo × Q q.hi
       one = f q (Memᴰ.head refl)

@@ -15,4 +15,4 @@ left_of (Split a b) = a ∷ b ∷ []
 -- each area is cut as a build cuts it
 unfoldable pub less : Interval → List Interval → List Interval
 less c [] = []
-less c (r ∷ l) = left_of (cut_by c r.lo r.hi) ++ less c l
+less c (r ∷ l) = left_of (cut_by c r) ++ less c l
