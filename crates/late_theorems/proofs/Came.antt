@@ -15,7 +15,7 @@ use Rattle.memory.specs.Map.{answer_number, registered}
 use Rattle.memory.specs.Made.{Made}
 use Rattle.memory.proofs.MapLaws.{registered_made}
 use Rattle.areas.specs.declared.AreasRefusal.{AreasRefusal}
-use Rattle.areas.specs.Interval.{Interval}
+use Rattle.areas.specs.declared.Interval.{Interval}
 use Rattle.areas.specs.Areas.{areas_of}
 use Rattle.areas.specs.Table.{built_number, flat, slots_in, Builds}
 use Rattle.areas.proofs.Writing.{flat_length}

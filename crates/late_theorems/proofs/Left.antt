@@ -12,7 +12,8 @@ use Rattle.page.specs.Round.{Page}
 use Rattle.entry.specs.declared.Claim.{Claim}
 use Rattle.memory.specs.declared.MemoryMap.{MemoryMap}
 use Rattle.memory.specs.Map.{Something, nothing}
-use Rattle.areas.specs.Interval.{Interval, Listed}
+use Rattle.areas.specs.declared.Interval.{Interval}
+use Rattle.areas.specs.Interval.{Listed}
 use Rattle.areas.specs.Steps.{Solid}
 use Rattle.areas.specs.Table.{slots_in}
 use Rattle.demand3.specs.Slots.{number_slot, ListedIn}

@@ -8,7 +8,8 @@ use mathlib.Core.Logic.{◌↔◌, ⊎_elim}
 use Prim.Native.Nat.{ℕ, zero, suc, ◌+◌, ◌≤◌, ◌<◌}
 use native.Mathlib.Omega.{arith}
 use lib.ListN.{length, get_or}
-use Rattle.areas.specs.Interval.{Interval, interval, Listed, Above}
+use Rattle.areas.specs.declared.Interval.{Interval}
+use Rattle.areas.specs.Interval.{interval, Listed, Above}
 use Rattle.areas.specs.Shape.{WholePages}
 use Rattle.areas.specs.Table.{slots_in}
 use Rattle.lent_areas.specs.declared.MemoryArea.{MemoryArea}

@@ -19,7 +19,8 @@ use Rattle.memory.specs.declared.MemoryMap.{MemoryMap}
 use Rattle.memory.specs.declared.Registered.{Registered}
 use Rattle.memory.specs.Map.{Something, nothing, answered, registered}
 use Rattle.memory.proofs.MapLaws.{Way, no_kind, no_page, new_page, registered_way}
-use Rattle.areas.specs.Interval.{Interval, Listed, Ascending}
+use Rattle.areas.specs.declared.Interval.{Interval}
+use Rattle.areas.specs.Interval.{Listed, Ascending}
 use Rattle.areas.specs.Areas.{span}
 use Rattle.areas.specs.Shape.{WholePages, Shape}
 use Rattle.areas.specs.Steps.{Solid}

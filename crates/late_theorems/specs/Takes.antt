@@ -3,7 +3,8 @@ use Rattle.std.specs.Prelude.{◌≡◌, ℕ, ◌<◌}
 use Rattle.entry.specs.declared.Claim.{Claim}
 use Rattle.entry.specs.Claim.{rounded}
 use Rattle.memory.specs.Map.{Something}
-use Rattle.areas.specs.Interval.{Interval, Inside}
+use Rattle.areas.specs.declared.Interval.{Interval}
+use Rattle.areas.specs.Interval.{Inside}
 use Rattle.areas.specs.Areas.{span}
 use Rattle.lent_areas.specs.declared.MemoryArea.{MemoryArea}
 

@@ -47,10 +47,12 @@ pub struct Registered {
 fn absorbed(new: MemoryEntry, held: MemoryEntry) -> Option<MemoryEntry>
     ensures { result ≡ absorb new held }
 {
+    // Most held entries are elsewhere, so that is asked first.
+    let both = new.combine(held)?;
     if new.kind != held.kind {
         return None;
     }
-    new.combine(held)
+    Some(both)
 }
 
 impl MemoryMap {

@@ -12,7 +12,8 @@ use Rattle.entry.specs.declared.MemoryEntry.{MemoryEntry}
 use Rattle.entry.specs.declared.Claim.{Claim}
 use Rattle.memory.specs.declared.MemoryMap.{MemoryMap}
 use Rattle.listing.specs.Listing.{held}
-use Rattle.areas.specs.Interval.{Interval, Listed}
+use Rattle.areas.specs.declared.Interval.{Interval}
+use Rattle.areas.specs.Interval.{Listed}
 use Rattle.areas.specs.Areas.{free_of}
 use Rattle.areas.specs.Shape.{Shape}
 use Rattle.areas.specs.Table.{slots_in, answer_of, table_of, Builds}

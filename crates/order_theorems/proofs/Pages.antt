@@ -17,7 +17,7 @@ use Rattle.memory.specs.declared.MemoryMap.{MemoryMap}
 use Rattle.memory.specs.Map.{slots_of}
 use Rattle.memory.specs.Made.{Made, Good}
 use Rattle.listing.specs.Listing.{held, wants}
-use Rattle.areas.specs.Interval.{Interval}
+use Rattle.areas.specs.declared.Interval.{Interval}
 use Rattle.areas.specs.Areas.{limit_of, span, free_of, areas_of}
 use Rattle.areas.proofs.Lists.{Every}
 use Rattle.areas.proofs.Those.{every_those}

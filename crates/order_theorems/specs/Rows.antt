@@ -5,7 +5,7 @@ use Rattle.memory.specs.Map.{blank}
 use Rattle.bootloader.specs.List.{claims}
 use Rattle.runs.specs.Sets.{Some}
 use Rattle.runs.specs.Refusals.{Kindless, Overflows}
-use Rattle.areas.specs.Interval.{Interval}
+use Rattle.areas.specs.declared.Interval.{Interval}
 use Rattle.areas.specs.Table.{slots_in}
 use Rattle.demand3.specs.Rule.{areas_after}
 use Rattle.fdt.specs.Header.{structure_of, strings_of}
