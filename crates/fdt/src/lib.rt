@@ -49,8 +49,8 @@ pub struct State {
     pub props: bool,
 }
 
-// A step of the walk: on from a state; or the end, with what the walk says of the block.
-// Where a step leads: on, or to what the walk says. It is no Result, since a walk that stops may have found all well.
+// A step of the walk: on from a state; or the end, with what the walk says of the block. It is no Result, since a walk that stops may have
+// found all well.
 #[derive(Clone, Copy)]
 pub enum Step {
     Go(State),
