@@ -5,7 +5,7 @@
 ghost use Rattle.memory.specs.Made.{Made};
 
 use entry::Claim;
-use fdt::{Blocks, Token};
+use fdt::{Blocks, Token, Tree};
 use memory::{MemoryMap, Registered};
 use numbers::Numbered;
 use std::io::{Read, Result};
@@ -150,8 +150,7 @@ fn same_claims<'a>(
     at: usize,
     count: u64,
     enough: u64,
-    structure: &'a [u8],
-    strings: &'a [u8],
+    tree: Tree<'a>,
     block: &'a [u8],
     arm: bool,
 ) -> bool {
@@ -161,7 +160,7 @@ fn same_claims<'a>(
         if seen == enough {
             return true;
         }
-        match visit::next_claim(structure, strings, block, arm, cursor) {
+        match visit::next_claim(tree, block, arm, cursor) {
             Step::Claims(claim, next) => {
                 if !is_claim(buf, at, count, seen, claim) {
                     return false;
@@ -194,8 +193,9 @@ fn opened_claims<'a>(
     let n = blocks.strings;
     let structure = words::part(tree, b.at, b.len);
     let strings = words::part(tree, n.at, n.len);
+    let opened = Tree { structure, strings };
     let block = reservations::reservation_block(tree, blocks);
-    same_claims(buf, at, count, enough, structure, strings, block, arm)
+    same_claims(buf, at, count, enough, opened, block, arm)
 }
 
 // The same of a tree's bytes. What cannot be opened claims nothing.
@@ -225,27 +225,21 @@ fn is_translated(buf: &[u8], at: usize, found: Option<Translated>) -> bool {
 }
 
 // The same of the first `reg` entry of a node.
-fn same_translation<'a>(
-    buf: &'a [u8],
-    at: usize,
-    structure: &'a [u8],
-    strings: &'a [u8],
-    node: usize,
-) -> bool {
-    let found = translation::translate_mmio_address(structure, strings, node, Sought::FirstReg);
+fn same_translation<'a>(buf: &'a [u8], at: usize, tree: Tree<'a>, node: usize) -> bool {
+    let found = translation::translate_mmio_address(tree, node, Sought::FirstReg);
     is_translated(buf, at, found)
 }
 
 // Whether the first `reg` entries of all nodes of a tree's blocks, the root first, are translated as it stands at a
 // place. The nodes come in document order, as their tokens do. A proved loop has to end, so there are so many steps and no more.
-fn same_translations<'a>(buf: &'a [u8], at: usize, structure: &'a [u8], strings: &'a [u8]) -> bool {
+fn same_translations<'a>(buf: &'a [u8], at: usize, tree: Tree<'a>) -> bool {
     let mut place: usize = 0;
     let mut seen: u64 = 0;
     for _ in 0..STEPS {
-        match fdt::token_at(structure, strings, place) {
+        match fdt::token_at(tree, place) {
             Token::Begin(_, next) => {
                 let there = translation_at(buf, at, seen);
-                if !same_translation(buf, there, structure, strings, place) {
+                if !same_translation(buf, there, tree, place) {
                     return false;
                 }
                 seen += 1;
@@ -272,7 +266,8 @@ fn tree_translations<'a>(buf: &'a [u8], at: usize, tree: &'a [u8]) -> bool {
             let b = blocks.structure;
             let n = blocks.strings;
             let structure = words::part(tree, b.at, b.len);
-            same_translations(buf, at, structure, words::part(tree, n.at, n.len))
+            let strings = words::part(tree, n.at, n.len);
+            same_translations(buf, at, Tree { structure, strings })
         }
         Ok(None) | Err(_) => stream::word(buf, at) == 0,
     }
