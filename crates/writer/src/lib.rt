@@ -47,6 +47,7 @@ impl Numbered for WriteRefusal {
 }
 
 // Whether a blob of so many bytes is within the limit and the buffer.
+#[tactic(auto, unfolding(crate::specs::Writer::room_answer))]
 fn sized(size: usize, room: usize) -> Result<(), WriteRefusal>
     ensures { result ≡ room_answer size room }
 {
@@ -155,7 +156,11 @@ impl Writer {
         }
         sized(size, room)
     }
+}
 
+// What each call is answered: the tests of the definition, in its order; those of lengths only keep the sums small.
+#[tactic(auto, using(crate::proofs::Sizes::room_over, crate::proofs::Sizes::grow_property, crate::proofs::Sizes::grow_end, crate::proofs::Sizes::grow_reservation, crate::proofs::Sizes::grow_finish), unfolding(crate::specs::Writer::answer_of, crate::specs::Writer::in_turn, crate::specs::Writer::in_limits))]
+impl Writer {
     fn judge_reservation(self, address: u64, size: u64, room: usize) -> Result<(), WriteRefusal>
         ensures { result ≡ answer_of self (reserve address size) room }
     {
@@ -174,6 +179,7 @@ impl Writer {
         Err(WriteRefusal::OutOfTurn)
     }
 
+    #[tactic(auto, using(crate::proofs::Sizes::room_over, crate::proofs::Sizes::grow_root, crate::proofs::Sizes::grow_begin), unfolding(crate::specs::Writer::answer_of, crate::specs::Writer::in_turn, crate::specs::Writer::in_limits))]
     fn judge_begin(self, name: &[u8], room: usize) -> Result<(), WriteRefusal>
         ensures { result ≡ answer_of self (write (begins name.now)) room }
     {
@@ -264,7 +270,9 @@ impl Writer {
         }
         self.room_for(0, room)
     }
+}
 
+impl Writer {
     // Writes a reservation entry.
     pub fn reservation(
         &mut self,

@@ -1,5 +1,5 @@
 -- `writer::Writer::room_for` meets its contract: a size that cannot be summed is over the limit (Refusals). Assumes nothing.
-use Rattle.writer.proofs.Refusals.{room_over, bounds, final_bare, final_rooted}
+use Rattle.writer.proofs.Sizes.{room_over, bounds, final_bare, final_rooted}
 use mathlib.Core.Path.{◌∙◌, ap}
 use native.Mathlib.Omega.{arith}
 use Prim.Native.Nat.{ℕ}
