@@ -66,3 +66,8 @@ module _ (w : Writer) where
   pub grow_finish : final_size w + 0 ≡ final_size (after w finish)
   unfolding final_size after
   grow_finish = omega arith
+
+-- what the judges of the calls need: a node's begin apart from the others
+pub ruleset begins_longer = (room_over, grow_root, grow_begin)
+
+pub ruleset longer = (room_over, grow_property, grow_end, grow_reservation, grow_finish)
