@@ -131,26 +131,22 @@ impl Writer {
     fn room_for(self, more: usize, room: usize) -> Result<(), WriteRefusal>
         ensures { result ≡ room_answer (final_size self + more) room }
     {
-        let reserved = self.reserved;
-        let structure = self.structure;
-        let strings = self.strings;
-        let depth = self.depth;
-        if 1048576 < reserved {
+        let limit = 1048576;
+        if limit < self.reserved
+            || limit < self.structure
+            || limit < self.strings
+            || limit < self.depth
+            || limit < more
+        {
             return Err(WriteRefusal::OverLimit);
         }
-        if 1048576 < structure {
-            return Err(WriteRefusal::OverLimit);
-        }
-        if 1048576 < strings {
-            return Err(WriteRefusal::OverLimit);
-        }
-        if 1048576 < depth {
-            return Err(WriteRefusal::OverLimit);
-        }
-        if 1048576 < more {
-            return Err(WriteRefusal::OverLimit);
-        }
-        let size = 40 + 16 * (reserved + 1) + structure + 4 * depth + 4 + strings + more;
+        let size = 40
+            + 16 * (self.reserved + 1)
+            + self.structure
+            + 4 * self.depth
+            + 4
+            + self.strings
+            + more;
         if self.nodes == 0 {
             return sized(size + 12, room);
         }
