@@ -46,6 +46,7 @@ pub struct WriteRun {
 }
 
 // A call that ends before a place, if the input has all of it.
+#[tactic(auto, unfolding(crate::specs::Input::whole))]
 fn whole_call(calls: &[u8], next: usize, call: CallRead) -> Option<Read>
     ensures { result ≡ whole calls.now next call }
 {
@@ -56,6 +57,7 @@ fn whole_call(calls: &[u8], next: usize, call: CallRead) -> Option<Read>
 }
 
 // The call at a place, if one stands there.
+#[tactic(auto, unfolding(crate::specs::Input::read_at, crate::specs::Input::by_letter))]
 pub fn read_call(calls: &[u8], at: usize) -> Option<Read>
     ensures { result ≡ read_at calls.now at }
 {

@@ -1,3 +1,3 @@
-pub mod Refusals
+pub mod Sizes
 pub mod Accepting
 pub mod Laying

@@ -14,12 +14,13 @@ pub data Call : Type 0 where
   write : Part → Call
   finish : Call
 
--- "Refusals, in order: 10 ..; 6; 11 .."; "0 is done." (document 01)
+-- "Refusals, in order: 10 ..; 6; 11 .."
 abbrev pub refusal_number : WriteRefusal → ℕ
 refusal_number OutOfTurn = 10
 refusal_number OverLimit = 6
 refusal_number NoRoom = 11
 
+-- "0 is done." (document 01)
 abbrev pub write_number : Result Unit WriteRefusal → ℕ
 write_number = number_by refusal_number
 

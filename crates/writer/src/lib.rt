@@ -47,6 +47,7 @@ impl Numbered for WriteRefusal {
 }
 
 // Whether a blob of so many bytes is within the limit and the buffer.
+#[tactic(auto, unfolding(crate::specs::Writer::room_answer))]
 fn sized(size: usize, room: usize) -> Result<(), WriteRefusal>
     ensures { result ≡ room_answer size room }
 {
@@ -130,80 +131,58 @@ impl Writer {
     fn room_for(self, more: usize, room: usize) -> Result<(), WriteRefusal>
         ensures { result ≡ room_answer (final_size self + more) room }
     {
-        let reserved = self.reserved;
-        let structure = self.structure;
-        let strings = self.strings;
-        let depth = self.depth;
-        if 1048576 < reserved {
+        let limit = 1048576;
+        if limit < self.reserved
+            || limit < self.structure
+            || limit < self.strings
+            || limit < self.depth
+            || limit < more
+        {
             return Err(WriteRefusal::OverLimit);
         }
-        if 1048576 < structure {
-            return Err(WriteRefusal::OverLimit);
-        }
-        if 1048576 < strings {
-            return Err(WriteRefusal::OverLimit);
-        }
-        if 1048576 < depth {
-            return Err(WriteRefusal::OverLimit);
-        }
-        if 1048576 < more {
-            return Err(WriteRefusal::OverLimit);
-        }
-        let size = 40 + 16 * (reserved + 1) + structure + 4 * depth + 4 + strings + more;
+        let size = 40
+            + 16 * (self.reserved + 1)
+            + self.structure
+            + 4 * self.depth
+            + 4
+            + self.strings
+            + more;
         if self.nodes == 0 {
             return sized(size + 12, room);
         }
         sized(size, room)
     }
+}
 
+// What each call is answered: the tests of the definition, in its order; those of lengths only keep the sums small.
+#[tactic(auto, using(crate::proofs::Sizes::longer), unfolding(crate::specs::Writer::answer_of, crate::specs::Writer::in_turn, crate::specs::Writer::in_limits))]
+impl Writer {
     fn judge_reservation(self, address: u64, size: u64, room: usize) -> Result<(), WriteRefusal>
         ensures { result ≡ answer_of self (reserve address size) room }
     {
-        if self.done {
+        if self.done || self.nodes != 0 || address == 0 && size == 0 {
             return Err(WriteRefusal::OutOfTurn);
         }
-        if self.nodes != 0 {
-            return Err(WriteRefusal::OutOfTurn);
-        }
-        if address != 0 {
-            return self.room_for(16, room);
-        }
-        if size != 0 {
-            return self.room_for(16, room);
-        }
-        Err(WriteRefusal::OutOfTurn)
+        self.room_for(16, room)
     }
 
+    #[tactic(auto, using(crate::proofs::Sizes::begins_longer), unfolding(crate::specs::Writer::answer_of, crate::specs::Writer::in_turn, crate::specs::Writer::in_limits))]
     fn judge_begin(self, name: &[u8], room: usize) -> Result<(), WriteRefusal>
         ensures { result ≡ answer_of self (write (begins name.now)) room }
     {
-        let depth = self.depth;
-        let nodes = self.nodes;
-        if self.done {
+        if self.done || words::byte_from(name, 0, 0) < name.len() {
             return Err(WriteRefusal::OutOfTurn);
         }
-        if words::byte_from(name, 0, 0) < name.len() {
-            return Err(WriteRefusal::OutOfTurn);
-        }
-        if nodes == 0 {
-            if depth != 0 {
-                return Err(WriteRefusal::OutOfTurn);
-            }
-            if name.len() != 0 {
+        if self.nodes == 0 {
+            if self.depth != 0 || name.len() != 0 {
                 return Err(WriteRefusal::OutOfTurn);
             }
             return self.room_for(0, room);
         }
-        if depth == 0 {
+        if self.depth == 0 {
             return Err(WriteRefusal::OutOfTurn);
         }
-        if 32 <= depth {
-            return Err(WriteRefusal::OverLimit);
-        }
-        if 4096 <= nodes {
-            return Err(WriteRefusal::OverLimit);
-        }
-        if 1048576 < name.len() {
+        if 32 <= self.depth || 4096 <= self.nodes || 1048576 < name.len() {
             return Err(WriteRefusal::OverLimit);
         }
         self.room_for(8 + (name.len() + 4) / 4 * 4, room)
@@ -217,19 +196,10 @@ impl Writer {
     ) -> Result<(), WriteRefusal>
         ensures { result ≡ answer_of self (write (property name.now value.now)) room }
     {
-        if self.done {
+        if self.done || !self.props || words::byte_from(name, 0, 0) < name.len() {
             return Err(WriteRefusal::OutOfTurn);
         }
-        if !self.props {
-            return Err(WriteRefusal::OutOfTurn);
-        }
-        if words::byte_from(name, 0, 0) < name.len() {
-            return Err(WriteRefusal::OutOfTurn);
-        }
-        if 1048576 < name.len() {
-            return Err(WriteRefusal::OverLimit);
-        }
-        if 1048576 < value.len() {
+        if 1048576 < name.len() || 1048576 < value.len() {
             return Err(WriteRefusal::OverLimit);
         }
         self.room_for(12 + (value.len() + 3) / 4 * 4 + (name.len() + 1), room)
@@ -238,13 +208,7 @@ impl Writer {
     fn judge_end(self, room: usize) -> Result<(), WriteRefusal>
         ensures { result ≡ answer_of self (write ends) room }
     {
-        if self.done {
-            return Err(WriteRefusal::OutOfTurn);
-        }
-        if self.nodes == 0 {
-            return Err(WriteRefusal::OutOfTurn);
-        }
-        if self.depth == 0 {
+        if self.done || self.nodes == 0 || self.depth == 0 {
             return Err(WriteRefusal::OutOfTurn);
         }
         self.room_for(0, room)
@@ -253,18 +217,14 @@ impl Writer {
     fn judge_finish(self, room: usize) -> Result<(), WriteRefusal>
         ensures { result ≡ answer_of self finish room }
     {
-        if self.done {
-            return Err(WriteRefusal::OutOfTurn);
-        }
-        if self.nodes == 0 {
-            return Err(WriteRefusal::OutOfTurn);
-        }
-        if self.depth != 0 {
+        if self.done || self.nodes == 0 || self.depth != 0 {
             return Err(WriteRefusal::OutOfTurn);
         }
         self.room_for(0, room)
     }
+}
 
+impl Writer {
     // Writes a reservation entry.
     pub fn reservation(
         &mut self,

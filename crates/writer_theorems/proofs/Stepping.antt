@@ -20,7 +20,7 @@ use Rattle.writer.specs.declared.Writer.{Writer}
 use Rattle.writer.specs.Writer.{reserve, write, final_size, in_turn, in_limits, after, answer_of}
 use Rattle.writer.specs.Calls.{laid, part_at, part_laid, reservation_laid}
 use Rattle.writer.proofs.Accepting.{call_passed, part_space, begin_limits, BeginTurn, begin_turn, PropertyTurn, property_turn, EndTurn, end_turn, reserve_turn}
-use Rattle.writer.proofs.Refusals.{grow_root, grow_begin, grow_property, grow_end, grow_reservation}
+use Rattle.writer.proofs.Sizes.{grow_root, grow_begin, grow_property, grow_end, grow_reservation}
 use Rattle.writer_theorems.specs.History.{region}
 use Rattle.writer_theorems.specs.Refusals.{begun, ended}
 use Rattle.writer_theorems.proofs.Snoc.{size_snoc, name_size_snoc, clean_snoc, entered_snoc, begun_append, ended_append}
