@@ -29,12 +29,7 @@ pub struct LateRunIn {
 }
 
 // The claims of a list, 24 bytes each, on a map that is lent, and on a table of which `count` slots are used.
-pub fn claim_all_in(
-    map: &mut MemoryMap,
-    slots: &mut [u64],
-    count: usize,
-    list: &[u8],
-) -> LateRunIn
+pub fn claim_all_in(map: &mut MemoryMap, slots: &mut [u64], count: usize, list: &[u8]) -> LateRunIn
     requires { Made 4096 map.old }
     ensures { ran_in result map.new slots.new ≡ late_all 4096 map.old count slots.old 0 (claims list.now) }
 {

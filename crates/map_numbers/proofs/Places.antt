@@ -148,8 +148,8 @@ pub written_all : {es : Slots} {l : List ℕ} (n : ℕ) → Full es → Written 
 written_all {es} {l} n full w =
     same_number_lists (set l 1536 n) (numbers es n) (length-set l 1536 n ∙ w.size ∙ sym (numbers_length es full n))
     (λ k h. place (λ k. get_or (set l 1536 n) k 0 ≡ get_or (numbers es n) k 0)
-        (λ k b. get_or-set_other l 1536 k n 0 (omega arith) ∙ w.starts k b ∙ sym (start_at es full n k b))
-        (λ k b. get_or-set_other l 1536 (512 + k) n 0 (omega arith) ∙ w.ends k b ∙ sym (end_at es full n k b))
-        (λ k b. get_or-set_other l 1536 (1024 + k) n 0 (omega arith) ∙ w.kinds k b ∙ sym (kind_at es full n k b))
-        (get_or-set_same l 1536 n 0 (omega (arith, w.size)) ∙ sym (size_at es full n))
-        k (omega (arith, length-set l 1536 n, w.size)))
+    (λ k b. get_or-set_other l 1536 k n 0 (omega arith) ∙ w.starts k b ∙ sym (start_at es full n k b))
+    (λ k b. get_or-set_other l 1536 (512 + k) n 0 (omega arith) ∙ w.ends k b ∙ sym (end_at es full n k b))
+    (λ k b. get_or-set_other l 1536 (1024 + k) n 0 (omega arith) ∙ w.kinds k b ∙ sym (kind_at es full n k b))
+    (get_or-set_same l 1536 n 0 (omega (arith, w.size)) ∙ sym (size_at es full n))
+    k (omega (arith, length-set l 1536 n, w.size)))

@@ -82,11 +82,7 @@ pub fn read_all<R: Read, E: Eprint>(
 }
 
 // Writes all of a text to standard output.
-pub fn write_all<W: Write, E: Eprint>(
-    output: &mut W,
-    told: &E,
-    text: &[u8],
-) -> Result<(), Failure>
+pub fn write_all<W: Write, E: Eprint>(output: &mut W, told: &E, text: &[u8]) -> Result<(), Failure>
     ensures bytes { Writes (W.contents output.old) (W.contents output.new) text.now result }
     ensures no_read { result ≢ Err Failure.Unread }
 {

@@ -198,12 +198,7 @@ fn not_started(refusal: Refusal) -> Start
 }
 
 // The map beside its finished areas, or the empty one where they are refused.
-fn start_finished(
-    map: MemoryMap,
-    low: Option<u64>,
-    high: Option<u64>,
-    slots: &mut [u64],
-) -> Start
+fn start_finished(map: MemoryMap, low: Option<u64>, high: Option<u64>, slots: &mut [u64]) -> Start
     requires { Made 4096 map }
     ensures { StartFinishes 4096 map low high slots.old slots.new result }
 {
