@@ -104,12 +104,7 @@ fn reserved_value<'a>(tree: Tree<'a>, child: usize, cells: Cells) -> Option<Bloc
 }
 
 // The value whose entries a child claims, by the rule and the cells of its parent.
-pub fn child_value<'a>(
-    tree: Tree<'a>,
-    way: Way,
-    cells: Cells,
-    child: usize,
-) -> Option<Block>
+pub fn child_value<'a>(tree: Tree<'a>, way: Way, cells: Cells, child: usize) -> Option<Block>
     ensures { result ≡ child_value tree.entry.structure.now tree.entry.strings.now way cells.address cells.size child }
 {
     match way {
@@ -169,12 +164,7 @@ fn child_is<'a>(tree: Tree<'a>, child: usize, cells: Cells, reserved: bool) -> b
 }
 
 // Whether some child from a first one on is a counted reserved one with an unreadable `reg`, or else has a readable entry.
-fn some_child<'a>(
-    tree: Tree<'a>,
-    first: Option<usize>,
-    cells: Cells,
-    reserved: bool,
-) -> bool
+fn some_child<'a>(tree: Tree<'a>, first: Option<usize>, cells: Cells, reserved: bool) -> bool
     requires { Stands tree.structure.now tree.strings.now first }
     ensures { result ≡ some_kid reserved cells.address cells.size (at tree.entry.structure.now tree.entry.strings.now first) }
 {

@@ -48,13 +48,7 @@ enum Search {
 }
 
 // The target's region, by its parent's cells.
-fn begin_at<'a>(
-    tree: Tree<'a>,
-    node: usize,
-    cells: Cells,
-    sought: Sought,
-    number: usize,
-) -> Search
+fn begin_at<'a>(tree: Tree<'a>, node: usize, cells: Cells, sought: Sought, number: usize) -> Search
     ensures { result ≡ begun_at (start_of sought cells.address cells.size (value_of reg_name (props_of (node_at tree.entry.structure.now tree.entry.strings.now node)))) number }
 {
     match sought {
@@ -79,9 +73,11 @@ fn over_bus<'a>(tree: Tree<'a>, node: usize, parent: CellCount, region: Region) 
 {
     match nodes::getprop(tree, node, b"ranges") {
         Some(value) => {
-            let ranges = words::part(tree.structure, value.at, value.len);
-            let own = nodes::cells_of(tree, node);
-            let bus = Bus { ranges, own, parent };
+            let bus = Bus {
+                ranges: words::part(tree.structure, value.at, value.len),
+                own: nodes::cells_of(tree, node),
+                parent,
+            };
             windows::translate_bus_address(bus, region)
         }
         None => Window::Nowhere,
