@@ -14,6 +14,13 @@ pub enum CellCount {
     Faulty,
 }
 
+// What the cell properties of a node say: its children's addresses and sizes are read by them.
+#[derive(Clone, Copy)]
+pub struct Cells {
+    pub address: CellCount,
+    pub size: CellCount,
+}
+
 // A row of `reg`.
 #[derive(Clone, Copy)]
 pub struct Region {
@@ -89,14 +96,14 @@ fn number(v: &[u8], w: usize, at: usize) -> u64
 }
 
 // Row i of a value of `reg`, by the cells of the node's parent.
-pub fn reg_row(v: &[u8], address: CellCount, size: CellCount, i: usize) -> RegRow
-    ensures { result ≡ reg_row (reg_of address size v.now) i }
+pub fn reg_row(v: &[u8], cells: Cells, i: usize) -> RegRow
+    ensures { result ≡ reg_row (reg_of cells.address cells.size v.now) i }
 {
     if v.len() == 0 {
         return RegRow::PastReg;
     }
-    let x = width(address, 2);
-    let z = width(size, 1);
+    let x = width(cells.address, 2);
+    let z = width(cells.size, 1);
     if x == 0 {
         return RegRow::NoReg;
     }
@@ -118,21 +125,15 @@ pub fn reg_row(v: &[u8], address: CellCount, size: CellCount, i: usize) -> RegRo
 }
 
 // Row i of a value of `ranges`, by the bus's own cells and its parent's address cells.
-pub fn range_row(
-    v: &[u8],
-    address: CellCount,
-    parent: CellCount,
-    size: CellCount,
-    i: usize,
-) -> RangeRow
-    ensures { result ≡ range_row (ranges_of address parent size v.now) i }
+pub fn range_row(v: &[u8], own: Cells, parent: CellCount, i: usize) -> RangeRow
+    ensures { result ≡ range_row (ranges_of own.address parent own.size v.now) i }
 {
     if v.len() == 0 {
         return RangeRow::PastRange;
     }
-    let x = width(address, 2);
+    let x = width(own.address, 2);
     let y = width(parent, 2);
-    let z = width(size, 1);
+    let z = width(own.size, 1);
     if x == 0 {
         return RangeRow::NoRange;
     }

@@ -11,10 +11,10 @@ ghost use Rattle.claims.specs.Judging.{child_is, some_kid, bad_reg, bad_ranges, 
 ghost use Rattle.claims.specs.Values.{child_value, dynamic_at};
 ghost use Rattle.claims.specs.declared.Way.TheVariants.{Reserve, Controllers};
 
-use cells::{CellCount, RangeRow, RegRow};
+use cells::{Cells, RangeRow, RegRow, Region};
 use fdt::{Block, Tree};
 use numbers::Numbered;
-use windows::Window;
+use windows::{Bus, Window};
 
 // By which rule children claim memory: as those of /reserved-memory, as those of /soc, or as the root's.
 #[derive(Clone, Copy)]
@@ -53,87 +53,62 @@ impl Numbered for ValueFault {
 }
 
 // A region of the root's child: there is no bus to go through, and so its end alone is looked at.
-fn at_root(address: u64, size: u64) -> Window
-    ensures { result ≡ lands_by Controllers (rows []) address size }
+fn at_root(region: Region) -> Window
+    ensures { result ≡ lands_by Controllers (rows []) region.address region.size }
 {
-    if size == 0 {
-        return Window::To(address);
+    if region.size == 0 {
+        return Window::To(region.address);
     }
-    if 0xffff_ffff_ffff_ffff - address < size - 1 {
+    if 0xffff_ffff_ffff_ffff - region.address < region.size - 1 {
         return Window::Nowhere;
     }
-    Window::To(address)
+    Window::To(region.address)
 }
 
-// Where a region lies, by the rule of its parent. `ranges` is /soc's, and is read for its children alone.
-pub fn lands(
-    way: Way,
-    ranges: &[u8],
-    own: CellCount,
-    parent: CellCount,
-    length: CellCount,
-    address: u64,
-    size: u64,
-) -> Window
-    ensures { result ≡ lands_by way (ranges_of own parent length ranges.now) address size }
+// Where a region lies, by the rule of its parent. `bus` is /soc, and is read for its children alone.
+pub fn lands<'a>(way: Way, bus: Bus<'a>, region: Region) -> Window
+    ensures { result ≡ lands_by way (ranges_of bus.entry.own.address bus.entry.parent bus.entry.own.size bus.entry.ranges.now) region.address region.size }
 {
     match way {
-        Way::Reserve => Window::To(address),
-        Way::Soc => windows::get_mmio_address(ranges, own, parent, length, address, size),
-        Way::Controllers => at_root(address, size),
+        Way::Reserve => Window::To(region.address),
+        Way::Soc => windows::get_mmio_address(bus, region),
+        Way::Controllers => at_root(region),
     }
 }
 
 // The value of `alloc-ranges` of a dynamic reservation, where it leaves no choice.
-fn dynamic_value<'a>(
-    tree: Tree<'a>,
-    child: usize,
-    address: CellCount,
-    size: CellCount,
-) -> Option<Block>
-    ensures { result ≡ dynamic_at tree.entry.structure.now address size (prop_at tree.entry.structure.now tree.entry.strings.now child size_name) (prop_at tree.entry.structure.now tree.entry.strings.now child alloc_ranges_name) }
+fn dynamic_value<'a>(tree: Tree<'a>, child: usize, cells: Cells) -> Option<Block>
+    ensures { result ≡ dynamic_at tree.entry.structure.now cells.address cells.size (prop_at tree.entry.structure.now tree.entry.strings.now child size_name) (prop_at tree.entry.structure.now tree.entry.strings.now child alloc_ranges_name) }
 {
     let bytes = nodes::getprop(tree, child, b"size")?;
     let ranges = nodes::getprop(tree, child, b"alloc-ranges")?;
     reserved::visit_exact_dynamic_reserved_memory_range(
         words::part(tree.structure, bytes.at, bytes.len),
         words::part(tree.structure, ranges.at, ranges.len),
-        address,
-        size,
+        cells,
     )?;
     Some(ranges)
 }
 
 // The value of a reserved child's entries: its `reg`, or that of an exact dynamic reservation.
-fn reserved_value<'a>(
-    tree: Tree<'a>,
-    child: usize,
-    address: CellCount,
-    size: CellCount,
-) -> Option<Block>
-    ensures { result ≡ child_value tree.entry.structure.now tree.entry.strings.now Reserve address size child }
+fn reserved_value<'a>(tree: Tree<'a>, child: usize, cells: Cells) -> Option<Block>
+    ensures { result ≡ child_value tree.entry.structure.now tree.entry.strings.now Reserve cells.address cells.size child }
 {
     if !reserved::reserved_memory_node_is_available(tree, child) {
         return None;
     }
     match nodes::getprop(tree, child, b"reg") {
         Some(reg) => Some(reg),
-        None => dynamic_value(tree, child, address, size),
+        None => dynamic_value(tree, child, cells),
     }
 }
 
 // The value whose entries a child claims, by the rule and the cells of its parent.
-pub fn child_value<'a>(
-    tree: Tree<'a>,
-    way: Way,
-    address: CellCount,
-    size: CellCount,
-    child: usize,
-) -> Option<Block>
-    ensures { result ≡ child_value tree.entry.structure.now tree.entry.strings.now way address size child }
+pub fn child_value<'a>(tree: Tree<'a>, way: Way, cells: Cells, child: usize) -> Option<Block>
+    ensures { result ≡ child_value tree.entry.structure.now tree.entry.strings.now way cells.address cells.size child }
 {
     match way {
-        Way::Reserve => reserved_value(tree, child, address, size),
+        Way::Reserve => reserved_value(tree, child, cells),
         Way::Soc => nodes::getprop(tree, child, b"reg"),
         Way::Controllers => {
             nodes::getprop(tree, child, b"interrupt-controller")?;
@@ -163,20 +138,14 @@ pub fn is_qemu_virt<'a>(tree: Tree<'a>, arm: bool) -> bool
 }
 
 // Whether a child is what some_child looks for.
-fn child_is<'a>(
-    tree: Tree<'a>,
-    child: usize,
-    address: CellCount,
-    size: CellCount,
-    reserved: bool,
-) -> bool
-    ensures { result ≡ child_is reserved address size (props_of (node_at tree.entry.structure.now tree.entry.strings.now child)) }
+fn child_is<'a>(tree: Tree<'a>, child: usize, cells: Cells, reserved: bool) -> bool
+    ensures { result ≡ child_is reserved cells.address cells.size (props_of (node_at tree.entry.structure.now tree.entry.strings.now child)) }
 {
     let Some(reg) = nodes::getprop(tree, child, b"reg") else {
         return false;
     };
     let value = words::part(tree.structure, reg.at, reg.len);
-    let first = cells::reg_row(value, address, size, 0);
+    let first = cells::reg_row(value, cells, 0);
     if reserved {
         if !reserved::reserved_memory_node_is_available(tree, child) {
             return false;
@@ -195,19 +164,13 @@ fn child_is<'a>(
 }
 
 // Whether some child from a first one on is a counted reserved one with an unreadable `reg`, or else has a readable entry.
-fn some_child<'a>(
-    tree: Tree<'a>,
-    first: Option<usize>,
-    address: CellCount,
-    size: CellCount,
-    reserved: bool,
-) -> bool
+fn some_child<'a>(tree: Tree<'a>, first: Option<usize>, cells: Cells, reserved: bool) -> bool
     requires { Stands tree.structure.now tree.strings.now first }
-    ensures { result ≡ some_kid reserved address size (at tree.entry.structure.now tree.entry.strings.now first) }
+    ensures { result ≡ some_kid reserved cells.address cells.size (at tree.entry.structure.now tree.entry.strings.now first) }
 {
     let mut child = first;
     while let Some(node) = child {
-        if child_is(tree, node, address, size, reserved) {
+        if child_is(tree, node, cells, reserved) {
             return true;
         }
         child = nodes::next_subnode(tree, node);
@@ -226,9 +189,7 @@ fn bad_reg<'a>(tree: Tree<'a>, root: usize) -> bool
         return false;
     }
     let first = nodes::first_subnode(tree, node);
-    let address = nodes::address_cells(tree, node);
-    let size = nodes::size_cells(tree, node);
-    some_child(tree, first, address, size, true)
+    some_child(tree, first, nodes::cells_of(tree, node), true)
 }
 
 // Whether an entry of /soc's children meets a `ranges` that cannot be read.
@@ -241,19 +202,13 @@ fn bad_ranges<'a>(tree: Tree<'a>, root: usize) -> bool
     let Some(ranges) = nodes::getprop(tree, soc, b"ranges") else {
         return false;
     };
-    let own = nodes::address_cells(tree, soc);
+    let value = words::part(tree.structure, ranges.at, ranges.len);
+    let own = nodes::cells_of(tree, soc);
     let parent = nodes::address_cells(tree, root);
-    let length = nodes::size_cells(tree, soc);
-    match cells::range_row(
-        words::part(tree.structure, ranges.at, ranges.len),
-        own,
-        parent,
-        length,
-        0,
-    ) {
+    match cells::range_row(value, own, parent, 0) {
         RangeRow::NoRange => {
             let first = nodes::first_subnode(tree, soc);
-            some_child(tree, first, own, length, false)
+            some_child(tree, first, own, false)
         }
         RangeRow::PastRange => false,
         RangeRow::RangeAt(_) => false,

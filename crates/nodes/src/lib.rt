@@ -10,7 +10,7 @@ ghost use Rattle.nodes.specs.Path.{path_at};
 ghost use Rattle.nodes.specs.Order.{place_at};
 ghost use Rattle.nodes.specs.Cells.{address_cells, size_cells, count_at};
 
-use cells::CellCount;
+use cells::{CellCount, Cells};
 use fdt::{Block, Token, Tree};
 
 // What stands past the properties: a child, with the length of its name and the place after its name; the end of the node, with the
@@ -315,4 +315,15 @@ pub fn size_cells<'a>(tree: Tree<'a>, node: usize) -> CellCount
     ensures { result ≡ count_at tree.entry.structure.now tree.entry.strings.now node size_cells }
 {
     count_of(tree, node, b"#size-cells")
+}
+
+// What the cell properties of the node at a place say.
+pub fn cells_of<'a>(tree: Tree<'a>, node: usize) -> Cells
+    ensures address { result.address ≡ count_at tree.entry.structure.now tree.entry.strings.now node address_cells }
+    ensures size { result.size ≡ count_at tree.entry.structure.now tree.entry.strings.now node size_cells }
+{
+    Cells {
+        address: address_cells(tree, node),
+        size: size_cells(tree, node),
+    }
 }

@@ -92,7 +92,7 @@ module _ (a d : CellCount) (c : ℕ) (stated : d ≡ Stated c) (size ranges : Li
   unfolding exact_of
   other_length h = rw (stated, ne_eqb _ _ h)
 
-  own_length : length size ≡ cell_bytes c → exact_by (number_at size (cell_bytes c) 0) (reg_of a (Stated c) ranges) ≡ exact_of a d size ranges
+  own_length : length size ≡ cell_bytes c → exact_by (number_at size (cell_bytes c) 0) (reg_of a d ranges) ≡ exact_of a d size ranges
   unfolding exact_of
   own_length h = rw (stated, eq-eqb _ _ h)
 
@@ -116,7 +116,7 @@ module _ (a d : CellCount) (c : ℕ) (stated : d ≡ Stated c) (size ranges : Li
       not_long h = other_length (λ e. h (e ∙ (number_read size c m is n read).0))
 
       -- what is left is for the rows to say
-      pub by_rows : length size ≡ c * 4 → (x : Option Region) → x ≡ exact_by n (reg_of a (Stated c) ranges) → x ≡ exact_of a d size ranges
+      pub by_rows : length size ≡ c * 4 → (x : Option Region) → x ≡ exact_by n (reg_of a d ranges) → x ≡ exact_of a d size ranges
       by_rows h x e =
           let w = number_read size c m is n read in
-          e ∙ ap (λ (k : ℕ). exact_by k (reg_of a (Stated c) ranges)) w.2 ∙ own_length (h ∙ sym w.0)
+          e ∙ ap (λ (k : ℕ). exact_by k (reg_of a d ranges)) w.2 ∙ own_length (h ∙ sym w.0)

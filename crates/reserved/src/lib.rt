@@ -6,7 +6,7 @@ ghost use Rattle.subtree.specs.Subtree.{node_at, props_of};
 ghost use Rattle.reserved.specs.Number.{cells_number};
 ghost use Rattle.reserved.specs.Reserved.{available, stated_alike, children_count, exact_of};
 
-use cells::{CellCount, RegRow, Region};
+use cells::{CellCount, Cells, RegRow, Region};
 use fdt::Tree;
 
 // The number in the first cells of some bytes, one cell or two; nothing where it cannot be read.
@@ -47,12 +47,12 @@ fn stated_alike(root: CellCount, own: CellCount) -> bool
 pub fn children_count<'a>(tree: Tree<'a>, root: usize, node: usize) -> bool
     ensures { result ≡ children_count (props_of (node_at tree.entry.structure.now tree.entry.strings.now root)) (props_of (node_at tree.entry.structure.now tree.entry.strings.now node)) }
 {
-    let address = nodes::address_cells(tree, root);
-    if !stated_alike(address, nodes::address_cells(tree, node)) {
+    let above = nodes::cells_of(tree, root);
+    let own = nodes::cells_of(tree, node);
+    if !stated_alike(above.address, own.address) {
         return false;
     }
-    let size = nodes::size_cells(tree, root);
-    if !stated_alike(size, nodes::size_cells(tree, node)) {
+    if !stated_alike(above.size, own.size) {
         return false;
     }
     match nodes::getprop(tree, node, b"ranges") {
@@ -76,22 +76,21 @@ pub fn reserved_memory_node_is_available<'a>(tree: Tree<'a>, node: usize) -> boo
 pub fn visit_exact_dynamic_reserved_memory_range<'a>(
     size: &'a [u8],
     ranges: &'a [u8],
-    address: CellCount,
-    length: CellCount,
+    cells: Cells,
 ) -> Option<Region>
-    ensures { result ≡ exact_of address length size.now ranges.now }
+    ensures { result ≡ exact_of cells.address cells.size size.now ranges.now }
 {
-    let CellCount::Stated(cells) = length else {
+    let CellCount::Stated(count) = cells.size else {
         return None;
     };
-    let bytes = cells_to_usize(size, cells)?;
-    if size.len() != cells * 4 {
+    let bytes = cells_to_usize(size, count)?;
+    if size.len() != count * 4 {
         return None;
     }
-    let RegRow::RegAt(region) = cells::reg_row(ranges, address, length, 0) else {
+    let RegRow::RegAt(region) = cells::reg_row(ranges, cells, 0) else {
         return None;
     };
-    let RegRow::PastReg = cells::reg_row(ranges, address, length, 1) else {
+    let RegRow::PastReg = cells::reg_row(ranges, cells, 1) else {
         return None;
     };
     if bytes == 0 {

@@ -10,9 +10,9 @@ ghost use Rattle.translation.specs.Translation.{over, start_of, address_of, size
 ghost use Rattle.translation.specs.Search.{begun_at, up_through, tried, searched, finished, Begins};
 ghost use Rattle.reading.specs.Values.{value_of};
 
-use cells::{CellCount, RegRow, Region};
+use cells::{CellCount, Cells, RegRow, Region};
 use fdt::Tree;
-use windows::Window;
+use windows::{Bus, Window};
 
 // What is translated: a given region of the target, or the first entry of its `reg`.
 #[derive(Clone, Copy)]
@@ -48,22 +48,15 @@ enum Search {
 }
 
 // The target's region, by its parent's cells.
-fn begin_at<'a>(
-    tree: Tree<'a>,
-    node: usize,
-    address: CellCount,
-    size: CellCount,
-    sought: Sought,
-    number: usize,
-) -> Search
-    ensures { result ≡ begun_at (start_of sought address size (value_of reg_name (props_of (node_at tree.entry.structure.now tree.entry.strings.now node)))) number }
+fn begin_at<'a>(tree: Tree<'a>, node: usize, cells: Cells, sought: Sought, number: usize) -> Search
+    ensures { result ≡ begun_at (start_of sought cells.address cells.size (value_of reg_name (props_of (node_at tree.entry.structure.now tree.entry.strings.now node)))) number }
 {
     match sought {
         Sought::Given(region) => Search::Gone(region.address, region.size, number),
         Sought::FirstReg => match nodes::getprop(tree, node, b"reg") {
             Some(reg) => {
                 let value = words::part(tree.structure, reg.at, reg.len);
-                match cells::reg_row(value, address, size, 0) {
+                match cells::reg_row(value, cells, 0) {
                     RegRow::RegAt(region) => Search::Gone(region.address, region.size, number),
                     RegRow::PastReg => Search::Lost,
                     RegRow::NoReg => Search::Lost,
@@ -75,15 +68,17 @@ fn begin_at<'a>(
 }
 
 // A region through the bus at a place, whose parent has such address cells.
-fn over_bus<'a>(tree: Tree<'a>, bus: usize, parent: CellCount, address: u64, size: u64) -> Window
-    ensures { result ≡ over (props_of (node_at tree.entry.structure.now tree.entry.strings.now bus)) parent address size }
+fn over_bus<'a>(tree: Tree<'a>, node: usize, parent: CellCount, region: Region) -> Window
+    ensures { result ≡ over (props_of (node_at tree.entry.structure.now tree.entry.strings.now node)) parent region.address region.size }
 {
-    match nodes::getprop(tree, bus, b"ranges") {
+    match nodes::getprop(tree, node, b"ranges") {
         Some(value) => {
-            let ranges = words::part(tree.structure, value.at, value.len);
-            let own = nodes::address_cells(tree, bus);
-            let length = nodes::size_cells(tree, bus);
-            windows::translate_bus_address(ranges, own, parent, length, address, size)
+            let bus = Bus {
+                ranges: words::part(tree.structure, value.at, value.len),
+                own: nodes::cells_of(tree, node),
+                parent,
+            };
+            windows::translate_bus_address(bus, region)
         }
         None => Window::Nowhere,
     }
@@ -95,7 +90,7 @@ fn up_through<'a>(tree: Tree<'a>, bus: usize, parent: CellCount, found: Search) 
 {
     match found {
         Search::Gone(address, size, number) => {
-            match over_bus(tree, bus, parent, address, size) {
+            match over_bus(tree, bus, parent, Region { address, size }) {
                 Window::To(to) => Search::Gone(to, size, number),
                 Window::Nowhere => Search::Lost,
                 Window::Unreadable => Search::Lost,
@@ -111,28 +106,26 @@ fn up_through<'a>(tree: Tree<'a>, bus: usize, parent: CellCount, found: Search) 
 fn translate_from_subtree<'a>(
     tree: Tree<'a>,
     node: usize,
-    address: CellCount,
-    size: CellCount,
+    cells: Cells,
     target: usize,
     sought: Sought,
     before: usize,
 ) -> Search
     requires { Begins tree.structure.now tree.strings.now (Some node) before }
-    ensures { result ≡ tried target sought node (props_of (node_at tree.entry.structure.now tree.entry.strings.now node)) address size before (searched target sought (kids_of (node_at tree.entry.structure.now tree.entry.strings.now node)) (address_of (props_of (node_at tree.entry.structure.now tree.entry.strings.now node))) (size_of (props_of (node_at tree.entry.structure.now tree.entry.strings.now node))) (before + 1)) }
+    ensures { result ≡ tried target sought node (props_of (node_at tree.entry.structure.now tree.entry.strings.now node)) cells.address cells.size before (searched target sought (kids_of (node_at tree.entry.structure.now tree.entry.strings.now node)) (address_of (props_of (node_at tree.entry.structure.now tree.entry.strings.now node))) (size_of (props_of (node_at tree.entry.structure.now tree.entry.strings.now node))) (before + 1)) }
 {
     if node == target {
-        return begin_at(tree, node, address, size, sought, before + 1);
+        return begin_at(tree, node, cells, sought, before + 1);
     }
     let inner = translate_from_children(
         tree,
         nodes::first_subnode(tree, node),
-        nodes::address_cells(tree, node),
-        nodes::size_cells(tree, node),
+        nodes::cells_of(tree, node),
         target,
         sought,
         before + 1,
     );
-    up_through(tree, node, address, inner)
+    up_through(tree, node, cells.address, inner)
 }
 
 // Tries the nodes from a first one on, which have a parent with these cells.
@@ -140,19 +133,18 @@ fn translate_from_subtree<'a>(
 fn translate_from_children<'a>(
     tree: Tree<'a>,
     first: Option<usize>,
-    address: CellCount,
-    size: CellCount,
+    cells: Cells,
     target: usize,
     sought: Sought,
     before: usize,
 ) -> Search
     requires { Begins tree.structure.now tree.strings.now first before }
-    ensures { result ≡ searched target sought (at tree.entry.structure.now tree.entry.strings.now first) address size before }
+    ensures { result ≡ searched target sought (at tree.entry.structure.now tree.entry.strings.now first) cells.address cells.size before }
 {
     let mut child = first;
     let mut tried = before;
     while let Some(node) = child {
-        match translate_from_subtree(tree, node, address, size, target, sought, tried) {
+        match translate_from_subtree(tree, node, cells, target, sought, tried) {
             Search::Gone(to, len, found) => {
                 return Search::Gone(to, len, found);
             }
@@ -198,7 +190,6 @@ pub fn translate_mmio_address<'a>(
 {
     let root = nodes::path_offset(tree, b"/")?;
     let first = nodes::first_subnode(tree, root);
-    let address = nodes::address_cells(tree, root);
-    let size = nodes::size_cells(tree, root);
-    finish(translate_from_children(tree, first, address, size, target, sought, 0))
+    let cells = nodes::cells_of(tree, root);
+    finish(translate_from_children(tree, first, cells, target, sought, 0))
 }

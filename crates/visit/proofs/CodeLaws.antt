@@ -123,7 +123,7 @@ row_inside s at n v a c i r p e =
     omega (arith, h.1, div-le_self (length v) (address_width a + size_width c), ap length p, part_short s at n)
 
 module _ (b n : List ℕ) (arm : Bool) (way : Way) (c : Cursor) (v : List ℕ) (x y : RegRow) where
-  pub row_is : v ≡ part_of b c.value.at c.value.len → x ≡ reg_row (reg_of c.own c.length v) c.row → x ≡ y
+  pub row_is : v ≡ part_of b c.value.at c.value.len → x ≡ reg_row (reg_of c.own.address c.own.size v) c.row → x ≡ y
       → row_step b n arm way c y ≡ child_step b n arm way c
   unfolding child_step
   row_is p is e = rw (← p, ← is, e)

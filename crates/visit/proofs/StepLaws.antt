@@ -195,4 +195,4 @@ module _ (b n block : List ℕ) (arm : Bool) where
 
 -- THE THEOREM: a step takes away the first of what is left, and the next child is a node where there is one
 pub follows : (b n block : List ℕ) (arm : Bool) (c : Cursor) → Stands b n c.next → Follows b n block arm c (step_of b n block arm c)
-follows b n block arm c s = stage_follows b n block arm c.row c.value c.next c.own c.parent c.length c.ranges s c.stage
+follows b n block arm c s = stage_follows b n block arm c.row c.value c.next c.own.address c.parent c.own.size c.ranges s c.stage

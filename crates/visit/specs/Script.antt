@@ -90,9 +90,9 @@ module _ (b n block : List ℕ) (arm : Bool) where
   abbrev pub stage_script : Stage → Cursor → List (Option Claim)
   stage_script Entries c = block_script (entries_from (length block / 16 - c.row) block c.row) ++ (None ∷ reserved_on arm (root_at b n))
   stage_script (Children way) c =
-      rows_script way (ranges_of c.own c.parent c.length (part_of b c.ranges.at c.ranges.len))
-      (drop c.row (entries (reg_of c.own c.length (part_of b c.value.at c.value.len))))
-      ++ (kids_script way (ranges_of c.own c.parent c.length (part_of b c.ranges.at c.ranges.len)) c.own c.length (at b n c.next)
+      rows_script way (ranges_of c.own.address c.parent c.own.size (part_of b c.ranges.at c.ranges.len))
+      (drop c.row (entries (reg_of c.own.address c.own.size (part_of b c.value.at c.value.len))))
+      ++ (kids_script way (ranges_of c.own.address c.parent c.own.size (part_of b c.ranges.at c.ranges.len)) c.own.address c.own.size (at b n c.next)
       ++ (None ∷ after_on arm (root_at b n) way))
   stage_script Virt c = virt_on c.row
   stage_script Console c = console_on (root_at b n)

@@ -38,14 +38,22 @@ no_part = record { at = 0; len = 0 }
 
 abbrev pub cursor_at : Stage → ℕ → Block → Option ℕ → CellCount → CellCount → CellCount → Block → Cursor
 cursor_at stage row value next own parent length ranges =
-    record { stage = stage; row = row; value = value; next = next; own = own; parent = parent; length = length; ranges = ranges }
+    record {
+      stage = stage;
+      row = row;
+      value = value;
+      next = next;
+      own = record { address = own; size = length };
+      parent = parent;
+      ranges = ranges;
+    }
 
 -- at the start of a stage that has no children
 abbrev pub start_at : Stage → Cursor
 start_at stage = cursor_at stage 0 no_part None Absent Absent Absent no_part
 
 abbrev pub with_row : Cursor → ℕ → Cursor
-with_row c row = cursor_at c.stage row c.value c.next c.own c.parent c.length c.ranges
+with_row c row = cursor_at c.stage row c.value c.next c.own.address c.parent c.own.size c.ranges
 
 abbrev pub next_row : Cursor → Cursor
 next_row c = with_row c (c.row + 1)
@@ -112,17 +120,17 @@ module _ (b n : List ℕ) (arm : Bool) where
   -- to the next child, or on
   abbrev pub child_next : Way → Cursor → Option ℕ → Cursor
   child_next way c (Some q) =
-      cursor_at (Children way) 0 (part_by (child_value b n way c.own c.length q)) (next_at b n q) c.own c.parent c.length c.ranges
+      cursor_at (Children way) 0 (part_by (child_value b n way c.own.address c.own.size q)) (next_at b n q) c.own.address c.parent c.own.size c.ranges
   child_next way c None = after_at way
 
   abbrev pub row_step : Way → Cursor → RegRow → Step
   row_step way c (RegAt r) =
-      yields (claim_by way (ranges_of c.own c.parent c.length (part_of b c.ranges.at c.ranges.len)) r) (next_row c)
+      yields (claim_by way (ranges_of c.own.address c.parent c.own.size (part_of b c.ranges.at c.ranges.len)) r) (next_row c)
   row_step way c PastReg = On (child_next way c c.next)
   row_step way c NoReg = On (child_next way c c.next)
 
   unfoldable pub child_step : Way → Cursor → Step
-  child_step way c = row_step way c (reg_row (reg_of c.own c.length (part_of b c.value.at c.value.len)) c.row)
+  child_step way c = row_step way c (reg_row (reg_of c.own.address c.own.size (part_of b c.value.at c.value.len)) c.row)
 
 -- "0x08000000 size 0x08000000 and 0x10000000 size 0x30000000"
 unfoldable pub virt_step : Cursor → Step

@@ -14,12 +14,12 @@ ghost use Rattle.claims.specs.Claims.{claim_by, uart_claim};
 ghost use Rattle.visit.specs.Steps.{start_at, with_row, part_by, parent_at, root_cells, ranges_by, enter_at, yields, entry_step, after_at, child_next, child_step, virt_step, step_of};
 ghost use Rattle.visit.specs.declared.Stage.TheVariants.{Entries};
 
-use cells::{CellCount, RegRow, Region};
+use cells::{CellCount, Cells, RegRow, Region};
 use claims::Way;
 use entry::Claim;
 use fdt::{Block, Tree};
 use reservations::Reservation;
-use windows::Window;
+use windows::{Bus, Window};
 
 // The sources of a tree's claims: the reservation block, rows of children by their rule, the ranges of a virtual board, the console.
 #[derive(Clone, Copy)]
@@ -39,9 +39,8 @@ pub struct Cursor {
     pub row: usize,
     pub value: Block,
     pub next: Option<usize>,
-    pub own: CellCount,
+    pub own: Cells,
     pub parent: CellCount,
-    pub length: CellCount,
     pub ranges: Block,
 }
 
@@ -62,9 +61,11 @@ fn start_at(stage: Stage) -> Cursor
         row: 0,
         value: Block { at: 0, len: 0 },
         next: None,
-        own: CellCount::Absent,
+        own: Cells {
+            address: CellCount::Absent,
+            size: CellCount::Absent,
+        },
         parent: CellCount::Absent,
-        length: CellCount::Absent,
         ranges: Block { at: 0, len: 0 },
     }
 }
@@ -147,9 +148,8 @@ fn enter<'a>(tree: Tree<'a>, way: Way) -> Cursor
         row: 0,
         value: Block { at: 0, len: 0 },
         next: nodes::first_subnode(tree, node),
-        own: nodes::address_cells(tree, node),
+        own: nodes::cells_of(tree, node),
         parent: root_cells(tree),
-        length: nodes::size_cells(tree, node),
         ranges: ranges_of(tree, way, node),
     }
 }
@@ -162,7 +162,6 @@ fn with_row(cursor: Cursor, row: usize) -> Cursor
     let next = cursor.next;
     let own = cursor.own;
     let parent = cursor.parent;
-    let length = cursor.length;
     let ranges = cursor.ranges;
     Cursor {
         stage,
@@ -171,7 +170,6 @@ fn with_row(cursor: Cursor, row: usize) -> Cursor
         next,
         own,
         parent,
-        length,
         ranges,
     }
 }
@@ -227,37 +225,29 @@ fn next_child<'a>(tree: Tree<'a>, arm: bool, way: Way, cursor: Cursor) -> Cursor
     };
     let own = cursor.own;
     let parent = cursor.parent;
-    let length = cursor.length;
     let ranges = cursor.ranges;
     Cursor {
         stage: Stage::Children(way),
         row: 0,
-        value: part_by(claims::child_value(tree, way, own, length, child)),
+        value: part_by(claims::child_value(tree, way, own, child)),
         next: nodes::next_subnode(tree, child),
         own,
         parent,
-        length,
         ranges,
     }
 }
 
 // A region of a child, where it lies somewhere.
 fn region_step(structure: &[u8], way: Way, cursor: Cursor, region: Region, next: Cursor) -> Step
-    ensures { result ≡ yields (claim_by way (ranges_of cursor.own cursor.parent cursor.length (part_of structure.now cursor.ranges.at cursor.ranges.len)) region) next }
+    ensures { result ≡ yields (claim_by way (ranges_of cursor.own.address cursor.parent cursor.own.size (part_of structure.now cursor.ranges.at cursor.ranges.len)) region) next }
 {
-    let own = cursor.own;
-    let parent = cursor.parent;
-    let length = cursor.length;
     let ranges = cursor.ranges;
-    match claims::lands(
-        way,
-        words::part(structure, ranges.at, ranges.len),
-        own,
-        parent,
-        length,
-        region.address,
-        region.size,
-    ) {
+    let bus = Bus {
+        ranges: words::part(structure, ranges.at, ranges.len),
+        own: cursor.own,
+        parent: cursor.parent,
+    };
+    match claims::lands(way, bus, region) {
         Window::To(base) => Step::Claims(
             Claim {
                 base,
@@ -277,10 +267,8 @@ fn child_step<'a>(tree: Tree<'a>, arm: bool, way: Way, cursor: Cursor) -> Step
 {
     let value = cursor.value;
     let row = cursor.row;
-    let own = cursor.own;
-    let length = cursor.length;
     let entries = words::part(tree.structure, value.at, value.len);
-    match cells::reg_row(entries, own, length, row) {
+    match cells::reg_row(entries, cursor.own, row) {
         RegRow::RegAt(region) => {
             let next = with_row(cursor, row + 1);
             region_step(tree.structure, way, cursor, region, next)

@@ -6,7 +6,15 @@ ghost use Rattle.std.specs.Prelude.{◌≡◌, true, false};
 ghost use Rattle.cells.specs.Rows.{ranges_of};
 ghost use Rattle.windows.specs.Window.{reach, last_byte, landing, fit_soc, fit_bus, fit_by, window};
 
-use cells::{CellCount, Range, RangeRow};
+use cells::{CellCount, Cells, Range, RangeRow, Region};
+
+// A bus, as its regions are read: the value of its `ranges`, what its own cell properties say, and its parent's address cells.
+#[derive(Clone, Copy)]
+pub struct Bus<'a> {
+    pub ranges: &'a [u8],
+    pub own: Cells,
+    pub parent: CellCount,
+}
 
 // Where an address leads: to another; nowhere; or the value cannot be read.
 #[derive(Clone, Copy)]
@@ -49,82 +57,78 @@ fn land(parent: u64, offset: u64, last: u64) -> Fit
 }
 
 // The address of a region's last byte, or the largest address where that lies past it.
-fn last_of(address: u64, size: u64) -> u64
-    ensures { result ≡ last_byte address size }
+fn last_of(region: Region) -> u64
+    ensures { result ≡ last_byte region.address region.size }
 {
-    let far = reach_of(size);
-    if 0xffff_ffff_ffff_ffff - address < far {
+    let far = reach_of(region.size);
+    if 0xffff_ffff_ffff_ffff - region.address < far {
         return 0xffff_ffff_ffff_ffff;
     }
-    address + far
+    region.address + far
 }
 
 // The soc window's rule.
-fn fit_soc(range: Range, address: u64, size: u64) -> Fit
-    ensures { result ≡ fit_soc range address size }
+fn fit_soc(range: Range, region: Region) -> Fit
+    ensures { result ≡ fit_soc range region.address region.size }
 {
-    if address < range.child {
+    if region.address < range.child {
         return Fit::Not;
     }
-    let last = last_of(address, size);
+    let last = last_of(region);
     if range.size < last - range.child {
         return Fit::Not;
     }
-    land(range.parent, address - range.child, reach_of(size))
+    land(
+        range.parent,
+        region.address - range.child,
+        reach_of(region.size),
+    )
 }
 
 // Translation's rule.
-fn fit_bus(range: Range, address: u64, size: u64) -> Fit
-    ensures { result ≡ fit_bus range address size }
+fn fit_bus(range: Range, region: Region) -> Fit
+    ensures { result ≡ fit_bus range region.address region.size }
 {
-    if address < range.child {
+    if region.address < range.child {
         return Fit::Not;
     }
-    let offset = address - range.child;
+    let offset = region.address - range.child;
     if range.size <= offset {
         return Fit::Not;
     }
-    if range.size - offset <= reach_of(size) {
+    if range.size - offset <= reach_of(region.size) {
         return Fit::Not;
     }
     land(range.parent, offset, 0)
 }
 
 // By the one rule or the other.
-fn fit_by(soc: bool, range: Range, address: u64, size: u64) -> Fit
-    ensures { result ≡ fit_by soc range address size }
+fn fit_by(soc: bool, range: Range, region: Region) -> Fit
+    ensures { result ≡ fit_by soc range region.address region.size }
 {
     if soc {
-        return fit_soc(range, address, size);
+        return fit_soc(range, region);
     }
-    fit_bus(range, address, size)
+    fit_bus(range, region)
 }
 
-// A region through the value of `ranges`, by the bus's own cells and its parent's address cells: the first range that has it decides.
-fn through(
-    soc: bool,
-    ranges: &[u8],
-    own: CellCount,
-    parent: CellCount,
-    length: CellCount,
-    address: u64,
-    size: u64,
-) -> Window
-    ensures { result ≡ window soc (ranges_of own parent length ranges.now) address size }
+// A region through the `ranges` of a bus: the first range that has it decides.
+fn through<'a>(soc: bool, bus: Bus<'a>, region: Region) -> Window
+    ensures { result ≡ window soc (ranges_of bus.entry.own.address bus.entry.parent bus.entry.own.size bus.entry.ranges.now) region.address region.size }
 {
     let mut i: usize = 0;
     loop {
-        match cells::range_row(ranges, own, parent, length, i) {
+        match cells::range_row(bus.ranges, bus.own, bus.parent, i) {
             RangeRow::NoRange => {
                 return Window::Unreadable;
             }
             RangeRow::PastRange => {
                 if i == 0 {
-                    return Window::To(address);
+                    return Window::To(region.address);
                 }
                 return Window::Nowhere;
             }
-            RangeRow::RangeAt(range) => match fit_by(soc, range, address, size) {
+            RangeRow::RangeAt(range) => match fit_by(soc, range, region) {
                 Fit::Gives(to) => {
                     return Window::To(to);
                 }
@@ -140,29 +144,15 @@ fn through(
 }
 
 // A region of /soc's child through the soc window.
-pub fn get_mmio_address(
-    ranges: &[u8],
-    own: CellCount,
-    parent: CellCount,
-    length: CellCount,
-    address: u64,
-    size: u64,
-) -> Window
-    ensures { result ≡ window true (ranges_of own parent length ranges.now) address size }
+pub fn get_mmio_address<'a>(bus: Bus<'a>, region: Region) -> Window
+    ensures { result ≡ window true (ranges_of bus.entry.own.address bus.entry.parent bus.entry.own.size bus.entry.ranges.now) region.address region.size }
 {
-    through(true, ranges, own, parent, length, address, size)
+    through(true, bus, region)
 }
 
 // A region on a bus to the bus's parent.
-pub fn translate_bus_address(
-    ranges: &[u8],
-    own: CellCount,
-    parent: CellCount,
-    length: CellCount,
-    address: u64,
-    size: u64,
-) -> Window
-    ensures { result ≡ window false (ranges_of own parent length ranges.now) address size }
+pub fn translate_bus_address<'a>(bus: Bus<'a>, region: Region) -> Window
+    ensures { result ≡ window false (ranges_of bus.entry.own.address bus.entry.parent bus.entry.own.size bus.entry.ranges.now) region.address region.size }
 {
-    through(false, ranges, own, parent, length, address, size)
+    through(false, bus, region)
 }

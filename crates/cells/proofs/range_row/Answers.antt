@@ -34,12 +34,12 @@ returns-then-z-eq0 c =
 pub overflow_add-row : goal.overflow_add-row
 overflow_add-row c =
     let a = c.args in
-    omega (arith, width_small a.address 2, width_small a.parent 2, width_small a.size 1)
+    omega (arith, width_small a.own.address 2, width_small a.parent 2, width_small a.own.size 1)
 
 pub overflow_add-row-2 : goal.overflow_add-row-2
 overflow_add-row-2 c =
     let a = c.args in
-    omega (arith, width_small a.address 2, width_small a.parent 2, width_small a.size 1)
+    omega (arith, width_small a.own.address 2, width_small a.parent 2, width_small a.own.size 1)
 
 pub returns-then-v-row-ne0 : goal.returns-then-v-row-ne0
 returns-then-v-row-ne0 c =

@@ -1,4 +1,4 @@
--- `cells::reg_row_lem` meets its contract: one law on the rows of `reg` for each answer. A row lies in the value, so its place fits.
+-- `cells::reg_row` meets its contract: one law on the rows of `reg` for each answer. A row lies in the value, so its place fits.
 -- Assumes nothing.
 use mathlib.Core.Path.{sym}
 use mathlib.Core.Logic.{inl, inr}
@@ -23,7 +23,7 @@ returns-then-z-eq0 c =
 pub overflow_add-w : goal.overflow_add-w
 overflow_add-w c =
     let a = c.args in
-    omega (arith, width_small a.address 2, width_small a.size 1)
+    omega (arith, width_small a.cells.address 2, width_small a.cells.size 1)
 
 pub returns-then-v-w-ne0 : goal.returns-then-v-w-ne0
 returns-then-v-w-ne0 c =

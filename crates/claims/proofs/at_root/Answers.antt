@@ -4,13 +4,13 @@ use Rattle.windows.specs.Window.{reach}
 use Rattle.claims.proofs.ClaimLaws.{root_lands, root_over}
 use Rattle.claims.proofs.at_root.Goals as goal
 
-pub returns-then-size-eq0 : goal.returns-then-size-eq0
+pub returns-then-region-eq0 : goal.returns-then-region-eq0
 unfolding reach
-returns-then-size-eq0 c = root_lands _ _ (omega arith)
+returns-then-region-eq0 c = root_lands _ _ (omega arith)
 
-pub returns-then-address-size : goal.returns-then-address-size
+pub returns-then-region : goal.returns-then-region
 unfolding reach
-returns-then-address-size c = root_over _ _ (omega arith)
+returns-then-region c = root_over _ _ (omega arith)
 
 pub returns : goal.returns
 unfolding reach

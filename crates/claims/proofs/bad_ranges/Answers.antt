@@ -14,18 +14,18 @@ some_child-requires c = first_found _ _ _ _ c.first_subnode-first.ensures
 
 pub returns-in-NoRange : goal.returns-in-NoRange
 returns-in-NoRange c =
-    met _ _ _ _ c.subnode.ensures _ c.in-Some.is _ c.getprop.ensures _ c.in-Some-getprop.is _ c.part.ensures _ _ _ c.address_cells-own.ensures
-    c.address_cells-parent.ensures c.size_cells-length.ensures _ c.range_row.ensures
+    met _ _ _ _ c.subnode.ensures _ c.in-Some.is _ c.getprop.ensures _ c.in-Some-getprop.is _ c.part-value.ensures _ _ _ c.cells_of-own.ensures.address
+    c.address_cells-parent.ensures c.cells_of-own.ensures.size _ c.range_row.ensures
     c.in-NoRange.is _ c.first_subnode-first.ensures _ c.some_child.ensures
 
 pub returns-in-PastRange : goal.returns-in-PastRange
 returns-in-PastRange c =
-    readable _ _ _ _ c.subnode.ensures _ c.in-Some.is _ c.getprop.ensures _ c.in-Some-getprop.is _ c.part.ensures _ _ _ c.address_cells-own.ensures
-    c.address_cells-parent.ensures c.size_cells-length.ensures _ c.range_row.ensures
+    readable _ _ _ _ c.subnode.ensures _ c.in-Some.is _ c.getprop.ensures _ c.in-Some-getprop.is _ c.part-value.ensures _ _ _ c.cells_of-own.ensures.address
+    c.address_cells-parent.ensures c.cells_of-own.ensures.size _ c.range_row.ensures
     _ c.in-PastRange.is refl
 
 pub returns-in-RangeAt : goal.returns-in-RangeAt
 returns-in-RangeAt c =
-    readable _ _ _ _ c.subnode.ensures _ c.in-Some.is _ c.getprop.ensures _ c.in-Some-getprop.is _ c.part.ensures _ _ _ c.address_cells-own.ensures
-    c.address_cells-parent.ensures c.size_cells-length.ensures _ c.range_row.ensures
+    readable _ _ _ _ c.subnode.ensures _ c.in-Some.is _ c.getprop.ensures _ c.in-Some-getprop.is _ c.part-value.ensures _ _ _ c.cells_of-own.ensures.address
+    c.address_cells-parent.ensures c.cells_of-own.ensures.size _ c.range_row.ensures
     _ c.in-RangeAt.is refl

@@ -15,4 +15,4 @@ some_child-requires c = first_found _ _ _ _ c.first_subnode-first.ensures
 pub returns : goal.returns
 returns c =
     counted _ _ _ _ c.subnode.ensures _ c.in-Some.is _ c.children_count.ensures (c.if-not-children_count.false)
-    _ c.first_subnode-first.ensures _ _ c.address_cells-address.ensures c.size_cells-size.ensures _ c.some_child.ensures
+    _ c.first_subnode-first.ensures _ _ c.cells_of.ensures.address c.cells_of.ensures.size _ c.some_child.ensures

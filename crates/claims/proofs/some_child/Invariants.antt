@@ -6,7 +6,7 @@ use Rattle.claims.proofs.JudgeLaws.{From}
 use Rattle.claims.proofs.some_child.Given as goal
 
 abbrev pub invariant-loop-child : goal.invariant-loop-child
-invariant-loop-child l = From l.tree.structure.now l.tree.strings.now l.reserved l.address l.size l.initial.child l.child
+invariant-loop-child l = From l.tree.structure.now l.tree.strings.now l.reserved l.cells.address l.cells.size l.initial.child l.child
 
 abbrev pub decreases-loop-child : goal.decreases-loop-child
 decreases-loop-child l = count (at l.tree.structure.now l.tree.strings.now l.child)

@@ -29,5 +29,5 @@ translate_from_subtree-translate_from_children-inner-requires t c =
 
 pub translate_from_subtree-returns : goal.translate_from_subtree-returns
 translate_from_subtree-returns t c =
-    is_other _ _ _ _ _ _ _ _ _ _ _ _ _ c.if-node-target.false c.first_subnode.ensures c.address_cells.ensures c.size_cells.ensures
+    is_other _ _ _ _ _ _ _ _ _ _ _ _ _ c.if-node-target.false c.first_subnode.ensures c.cells_of.ensures.address c.cells_of.ensures.size
     c.translate_from_children-inner.ensures c.up_through.ensures

@@ -16,7 +16,7 @@ decreases-translate_from_subtree l = node_left (node_at l.tree.structure.now l.t
 
 abbrev pub invariant-translate_from_children-loop-child : goal.invariant-translate_from_children-loop-child
 invariant-translate_from_children-loop-child l =
-    Goes l.tree.structure.now l.tree.strings.now l.target l.sought l.address l.size l.initial.child l.before l.child l.tried
+    Goes l.tree.structure.now l.tree.strings.now l.target l.sought l.cells.address l.cells.size l.initial.child l.before l.child l.tried
 
 abbrev pub decreases-translate_from_children-loop-child : goal.decreases-translate_from_children-loop-child
 decreases-translate_from_children-loop-child l = count (at l.tree.structure.now l.tree.strings.now l.child)

@@ -12,4 +12,4 @@ translate_from_children-requires c = root_begins _ c.first_subnode-first.ensures
 
 pub returns : goal.returns
 returns c =
-    from_root _ _ _ _ _ c.path_offset.ensures _ c.in_ok-root.was _ c.first_subnode-first.ensures _ _ _ _ c.address_cells-address.ensures c.size_cells-size.ensures c.translate_from_children.ensures c.finish.ensures
+    from_root _ _ _ _ _ c.path_offset.ensures _ c.in_ok-root.was _ c.first_subnode-first.ensures _ _ _ _ c.cells_of-cells.ensures.address c.cells_of-cells.ensures.size c.translate_from_children.ensures c.finish.ensures

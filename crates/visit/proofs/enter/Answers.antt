@@ -9,5 +9,5 @@ returns-in_default c = rw (← c.parent_of.ensures, c.in_default.is) c.start_at.
 pub returns : goal.returns
 unfolding enter_at
 returns c =
-    rw (← c.parent_of.ensures, c.in-Some.is, ← c.first_subnode.ensures, ← c.address_cells.ensures)
-    (rw (← c.root_cells.ensures, ← c.size_cells.ensures, ← c.ranges_of.ensures))
+    rw (← c.parent_of.ensures, c.in-Some.is, ← c.first_subnode.ensures, ← c.cells_of.ensures.address)
+    (rw (← c.root_cells.ensures, ← c.cells_of.ensures.size, ← c.ranges_of.ensures))

@@ -5,8 +5,8 @@ use Rattle.windows.specs.Window.{last_byte}
 use Rattle.windows.proofs.FitLaws.{below, past, inside}
 use Rattle.windows.proofs.fit_soc.Goals as goal
 
-pub returns-then-address-range : goal.returns-then-address-range
-returns-then-address-range c = below _ _ _ c.if-address-range.true
+pub returns-then-region-range : goal.returns-then-region-range
+returns-then-region-range c = below _ _ _ c.if-region-range.true
 
 pub overflow_sub-last : goal.overflow_sub-last
 unfolding last_byte
@@ -14,8 +14,8 @@ overflow_sub-last c = search rules
 
 pub returns-then-range-last : goal.returns-then-range-last
 returns-then-range-last c =
-    past _ _ _ c.if-address-range.false _ c.last_of-last.ensures c.if-range-last.true
+    past _ _ _ c.if-region-range.false _ c.last_of-last.ensures c.if-range-last.true
 
 pub returns : goal.returns
 returns c =
-    rw c.reach_of.ensures at c.land.ensures ∙ inside _ _ _ c.if-address-range.false _ c.last_of-last.ensures c.if-range-last.false
+    rw c.reach_of.ensures at c.land.ensures ∙ inside _ _ _ c.if-region-range.false _ c.last_of-last.ensures c.if-range-last.false

@@ -3,9 +3,9 @@ use native.Mathlib.Omega.{arith}
 use Rattle.windows.specs.Window.{last_byte}
 use Rattle.windows.proofs.last_of.Goals as goal
 
-pub returns-then-address-far : goal.returns-then-address-far
+pub returns-then-region-far : goal.returns-then-region-far
 unfolding last_byte
-returns-then-address-far c = omega arith
+returns-then-region-far c = omega arith
 
 pub returns : goal.returns
 unfolding last_byte

@@ -7,7 +7,7 @@ use Rattle.windows.proofs.WindowLaws.{go_on}
 use Rattle.windows.proofs.through.Given as goal
 
 abbrev pub invariant-loop-range : goal.invariant-loop-range
-invariant-loop-range l = (l.i ≤ lib.ListN.length l.ranges) × (go_on l.soc (ranges_of l.own l.parent l.length l.ranges) l.i l.address l.size ≡ window l.soc (ranges_of l.own l.parent l.length l.ranges) l.address l.size)
+invariant-loop-range l = (l.i ≤ lib.ListN.length l.bus.ranges.now) × (go_on l.soc (ranges_of l.bus.own.address l.bus.parent l.bus.own.size l.bus.ranges.now) l.i l.region.address l.region.size ≡ window l.soc (ranges_of l.bus.own.address l.bus.parent l.bus.own.size l.bus.ranges.now) l.region.address l.region.size)
 
 abbrev pub decreases-loop-range : goal.decreases-loop-range
-decreases-loop-range l = lib.ListN.length l.ranges - l.i
+decreases-loop-range l = lib.ListN.length l.bus.ranges.now - l.i
