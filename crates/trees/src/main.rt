@@ -6,7 +6,7 @@ use cells::{CellCount, Region};
 use fdt::{Blocks, Token, Tree};
 use numbers::Numbered;
 use reservations::Reservation;
-use std::io::{Read, Result};
+use std::io::Read;
 use stream::Tally;
 
 // The bytes that are held of the stream. The largest tree takes half of them, and its text is short.
@@ -33,16 +33,10 @@ enum Next {
     Lost,
 }
 
-fn difference(high: usize, low: usize) -> usize {
-    high.saturating_sub(low)
-}
-
 // The place after a byte, if a text has it there.
 fn same_byte(text: &[u8], at: usize, x: u8) -> usize {
-    if at < text.len() {
-        if text[at] == x {
-            return at + 1;
-        }
+    if at < text.len() && text[at] == x {
+        return at + 1;
     }
     NONE
 }
@@ -56,16 +50,9 @@ fn same_bytes<'a>(text: &'a [u8], at: usize, bytes: &'a [u8]) -> usize {
     p
 }
 
-fn equal<'a>(a: &'a [u8], b: &'a [u8]) -> bool {
-    same_bytes(a, 0, b) == a.len()
-}
-
+// The digit of a byte's lower half.
 fn digit(x: u8) -> u8 {
-    let low = x % 16;
-    if low < 10 {
-        return 48 + low;
-    }
-    87 + low
+    b"0123456789abcdef"[usize::from(x % 16)]
 }
 
 // The place after the digits of some bytes, two for each.
@@ -111,10 +98,7 @@ fn same_reservations<'a>(block: &'a [u8], text: &'a [u8]) -> usize {
             Reservation::Entry(entry) => {
                 p = same_reservation(text, p, entry);
             }
-            Reservation::End => {
-                return p;
-            }
-            Reservation::Past => {
+            Reservation::End | Reservation::Past => {
                 return p;
             }
         }
@@ -126,17 +110,13 @@ fn same_reservations<'a>(block: &'a [u8], text: &'a [u8]) -> usize {
 fn content<'a>(tree: Tree<'a>, node: usize) -> usize {
     match fdt::token_at(tree, node) {
         Token::Begin(_, next) => next,
-        Token::Bad => NONE,
-        Token::Nop(_) => NONE,
-        Token::EndNode(_) => NONE,
-        Token::Prop(_, _, _, _) => NONE,
-        Token::Fin => NONE,
+        _ => NONE,
     }
 }
 
 // The name of a property, by its start and its end.
 fn property_name(strings: &[u8], a: usize, z: usize) -> &[u8] {
-    words::part(strings, a, difference(z, a))
+    words::part(strings, a, z.saturating_sub(a))
 }
 
 // The next property from a place on, past NOPs, or none.
@@ -150,16 +130,7 @@ fn property_from<'a>(tree: Tree<'a>, from: usize) -> usize {
             Token::Prop(_, _, _, _) => {
                 return at;
             }
-            Token::Begin(_, _) => {
-                return NONE;
-            }
-            Token::EndNode(_) => {
-                return NONE;
-            }
-            Token::Fin => {
-                return NONE;
-            }
-            Token::Bad => {
+            _ => {
                 return NONE;
             }
         }
@@ -171,22 +142,14 @@ fn property_from<'a>(tree: Tree<'a>, from: usize) -> usize {
 fn property_end<'a>(tree: Tree<'a>, at: usize) -> usize {
     match fdt::token_at(tree, at) {
         Token::Prop(_, _, _, next) => next,
-        Token::Bad => NONE,
-        Token::Nop(_) => NONE,
-        Token::Begin(_, _) => NONE,
-        Token::EndNode(_) => NONE,
-        Token::Fin => NONE,
+        _ => NONE,
     }
 }
 
 fn name_at<'a>(tree: Tree<'a>, at: usize) -> &'a [u8] {
     match fdt::token_at(tree, at) {
         Token::Prop(_, a, z, _) => property_name(tree.strings, a, z),
-        Token::Bad => words::part(tree.strings, 0, 0),
-        Token::Nop(_) => words::part(tree.strings, 0, 0),
-        Token::Begin(_, _) => words::part(tree.strings, 0, 0),
-        Token::EndNode(_) => words::part(tree.strings, 0, 0),
-        Token::Fin => words::part(tree.strings, 0, 0),
+        _ => words::part(tree.strings, 0, 0),
     }
 }
 
@@ -239,7 +202,7 @@ fn first_named<'a>(tree: Tree<'a>, node: usize, name: &'a [u8]) -> usize {
         if at == NONE {
             return NONE;
         }
-        if equal(name_at(tree, at), name) {
+        if name_at(tree, at) == name {
             return at;
         }
         at = property_from(tree, property_end(tree, at));
@@ -266,7 +229,7 @@ fn finds<'a>(tree: Tree<'a>, node: usize, name: &'a [u8]) -> bool {
 
 // Some bytes without their last.
 fn shorter(s: &[u8]) -> &[u8] {
-    words::part(s, 0, difference(s.len(), 1))
+    words::part(s, 0, s.len().saturating_sub(1))
 }
 
 // Whether a property is found by its name, in its node and in the node above, and by a name that lacks a letter.
@@ -336,12 +299,10 @@ fn has_cells<'a>(tree: Tree<'a>, node: usize) -> bool {
 
 // The part of a name before its first `@`.
 fn stem(name: &[u8]) -> &[u8] {
-    for i in 0..name.len() {
-        if name[i] == b'@' {
-            return words::part(name, 0, i);
-        }
+    match name.iter().position(|x| *x == b'@') {
+        Some(i) => words::part(name, 0, i),
+        None => name,
     }
-    name
 }
 
 // The name of a node, or its part before `@`.
@@ -358,10 +319,7 @@ fn place(found: Option<usize>) -> usize {
 }
 
 fn matches<'a>(name: &'a [u8], step: &'a [u8]) -> bool {
-    if equal(name, step) {
-        return true;
-    }
-    equal(stem(name), step)
+    name == step || stem(name) == step
 }
 
 // The first child that a step names, or none: what nodes::subnode has to find.
@@ -418,10 +376,7 @@ fn put(path: &mut [u8; PATH], at: usize, x: u8) -> usize {
 }
 
 fn up(ups: &[usize; 32], depth: usize) -> usize {
-    if depth < 32 {
-        return ups[depth];
-    }
-    NONE
+    ups.get(depth).copied().unwrap_or(NONE)
 }
 
 // Writes the path to a node, whose ancestors and itself are `ups` up to its depth, and answers its length.
@@ -485,42 +440,39 @@ fn finds_path<'a>(tree: Tree<'a>, ups: &[usize; 32], depth: usize, whole: bool) 
     if target == NONE {
         return true;
     }
-    part_leads(tree, &path, 1, difference(len, 1)) == NONE
+    part_leads(tree, &path, 1, len.saturating_sub(1)) == NONE
 }
 
-// What goes over the whole tree for each node, and so is left out of large ones.
-fn check_found<'a>(tree: Tree<'a>, ups: &[usize; 32], depth: usize, nodes: usize) -> u64 {
+// What goes over the whole tree for each node, and so is left out of large ones. `Err` as check_node's.
+fn check_found<'a>(
+    tree: Tree<'a>,
+    ups: &[usize; 32],
+    depth: usize,
+    nodes: usize,
+) -> Result<(), u64> {
     let node = up(ups, depth);
-    if nodes::place_of(tree, node) != nodes {
-        return 4;
-    }
+    part_of(nodes::place_of(tree, node) == nodes, 4)?;
     if depth == 0 {
-        return 0;
+        return Ok(());
     }
-    if !finds_node(tree, up(ups, depth - 1), node) {
-        return 5;
-    }
-    if !finds_path(tree, ups, depth, true) {
-        return 5;
-    }
-    if !finds_path(tree, ups, depth, false) {
-        return 5;
-    }
-    0
+    part_of(finds_node(tree, up(ups, depth - 1), node), 5)?;
+    part_of(finds_path(tree, ups, depth, true), 5)?;
+    part_of(finds_path(tree, ups, depth, false), 5)
 }
 
-// The part of a node that differs: 3 a property, 4 the place in document order, 5 a child or a path, 6 the cells.
-fn check_node<'a>(tree: Tree<'a>, ups: &[usize; 32], depth: usize, nodes: usize) -> u64 {
+// Looks a node over. `Err` is the part that differs: 3 a property, 4 the place in document order, 5 a child or a path, 6 the cells.
+fn check_node<'a>(
+    tree: Tree<'a>,
+    ups: &[usize; 32],
+    depth: usize,
+    nodes: usize,
+) -> Result<(), u64> {
     let node = up(ups, depth);
-    let above = up(ups, difference(depth, 1));
-    if !finds_properties(tree, node, above) {
-        return 3;
-    }
-    if !has_cells(tree, node) {
-        return 6;
-    }
+    let above = up(ups, depth.saturating_sub(1));
+    part_of(finds_properties(tree, node, above), 3)?;
+    part_of(has_cells(tree, node), 6)?;
     if SMALL < tree.structure.len() {
-        return 0;
+        return Ok(());
     }
     check_found(tree, ups, depth, nodes)
 }
@@ -557,8 +509,8 @@ fn set(ups: &mut [usize; 32], depth: usize, node: usize) {
     }
 }
 
-// Walks a tree from its root on, beside its text from a place on, and answers the first part that differs.
-fn walk<'a>(tree: Tree<'a>, text: &'a [u8], from: usize, root: usize) -> u64 {
+// Walks a tree from its root on, beside its text from a place on. `Err` is the first part that differs.
+fn walk<'a>(tree: Tree<'a>, text: &'a [u8], from: usize, root: usize) -> Result<(), u64> {
     let mut ups = [NONE; 32];
     let mut node = root;
     let mut depth: usize = 0;
@@ -566,10 +518,7 @@ fn walk<'a>(tree: Tree<'a>, text: &'a [u8], from: usize, root: usize) -> u64 {
     for nodes in 0..4096 {
         set(&mut ups, depth, node);
         p = same_node(tree, text, p, node, depth);
-        let part = check_node(tree, &ups, depth, nodes);
-        if part != 0 {
-            return part;
-        }
+        check_node(tree, &ups, depth, nodes)?;
         match next_node(tree, &ups, depth) {
             Next::Node(n, d) => {
                 node = n;
@@ -579,61 +528,47 @@ fn walk<'a>(tree: Tree<'a>, text: &'a [u8], from: usize, root: usize) -> u64 {
                 return part_of(is_end(text, p), 2);
             }
             Next::Lost => {
-                return 2;
+                return Err(2);
             }
         }
     }
-    2
+    Err(2)
 }
 
-fn part_of(same: bool, part: u64) -> u64 {
-    if same {
-        return 0;
-    }
-    part
+// `Err` with the number of a part, where it is not the same.
+fn part_of(same: bool, part: u64) -> Result<(), u64> {
+    if same { Ok(()) } else { Err(part) }
 }
 
-// Whether an opened tree is the one that a text tells of.
-fn same_tree<'a>(blob: &'a [u8], text: &'a [u8], b: Blocks) -> u64 {
-    let s = b.structure;
-    let n = b.strings;
-    let structure = words::part(blob, s.at, s.len);
-    let strings = words::part(blob, n.at, n.len);
-    let tree = Tree { structure, strings };
-    let from = same_reservations(reservations::reservation_block(blob, b), text);
-    if leads(tree, b"") != NONE {
-        return 5;
-    }
-    if leads(tree, b"//") != NONE {
-        return 5;
-    }
+// Looks an opened tree over beside the text that tells of it. `Err` is the first part that differs.
+fn same_tree<'a>(blob: &'a [u8], text: &'a [u8], blocks: Blocks) -> Result<(), u64> {
+    let tree = Tree {
+        structure: words::part(blob, blocks.structure.at, blocks.structure.len),
+        strings: words::part(blob, blocks.strings.at, blocks.strings.len),
+    };
+    let from = same_reservations(reservations::reservation_block(blob, blocks), text);
+    part_of(leads(tree, b"") == NONE, 5)?;
+    part_of(leads(tree, b"//") == NONE, 5)?;
     walk(tree, text, from, leads(tree, b"/"))
 }
 
 // Whether a text is that of a refusal.
 fn is_refusal(text: &[u8], number: u8) -> bool {
     let a = same_bytes(text, 0, b"refused ");
-    let b = same_decimal(text, a, stream::wide(number));
+    let b = same_decimal(text, a, u64::from(number));
     is_end(text, same_byte(text, b, b'\n'))
 }
 
-// Opens a tree, and answers the first part that differs: 1 what opening it answers, 2 its text, or as check_node says.
-fn replay_tree<'a>(blob: &'a [u8], text: &'a [u8]) -> u64 {
-    let opened = fdt::open_tree(blob);
-    let number = opened.number();
-    match opened {
-        Ok(None) => part_of(equal(text, b"no tree\n"), 1),
-        Ok(Some(b)) => {
-            if number != 0 {
-                return 1;
-            }
-            same_tree(blob, text, b)
-        }
-        Err(_) => part_of(is_refusal(text, number), 1),
+// Opens a tree. `Err` is the first part that differs: 1 what opening it answers, 2 its text, or as check_node says.
+fn replay_tree<'a>(blob: &'a [u8], text: &'a [u8]) -> Result<(), u64> {
+    match fdt::open_tree(blob) {
+        Ok(None) => part_of(is_end(text, same_bytes(text, 0, b"no tree\n")), 1),
+        Ok(Some(blocks)) => same_tree(blob, text, blocks),
+        Err(fault) => part_of(is_refusal(text, fault.number()), 1),
     }
 }
 
-fn replay_case(buf: &[u8], at: usize) -> u64 {
+fn replay_case(buf: &[u8], at: usize) -> Result<(), u64> {
     let lengths = stream::word(buf, at);
     let blob = stream::past(buf, at, 1);
     let n = lengths % LENGTHS;
@@ -681,13 +616,13 @@ fn replay<R: Read, E: Eprint>(input: &mut R, told: &E, buf: &mut [u8; SPACE]) ->
                 return tally;
             }
         }
-        tally = stream::counted(tally, replay_case(buf, at));
+        tally = stream::counted(tally, replay_case(buf, at).err().unwrap_or(0));
         at = case_end(buf, at);
     }
     tally
 }
 
-fn main(rt: HostRuntime) -> Result<()> {
+fn main(rt: HostRuntime) -> std::io::Result<()> {
     let mut buf = [0u8; SPACE];
     let tally = replay(&mut rt.stdin(), &rt, &mut buf);
     stream::report(&rt, tally, b"tree")
