@@ -19,12 +19,6 @@ pub struct Tally {
     pub cut: bool,
 }
 
-pub fn wide(x: u8) -> u64
-    ensures { (result ≡ x) × (result < 256) }
-{
-    u64::from(x)
-}
-
 // The number in the 8 bytes at a place, the lowest byte first, or 0 where the space does not have them.
 pub fn word(space: &[u8], at: usize) -> u64
     ensures { NumberAt space.now at result }
