@@ -13,7 +13,7 @@ use stream::Tally;
 use translation::{Sought, Translated};
 use visit::Step;
 
-// The bytes that are held of the stream. A case has fewer.
+// The bytes that are held of the stream, with a count beside them: there is no heap. A case has fewer.
 const SPACE: usize = 131072;
 
 // No tree takes so many steps: it has no more bytes, and almost every step goes over some of them.
@@ -103,7 +103,8 @@ fn map_before(buf: &[u8], at: usize, count: u64) -> MemoryMap
     held
 }
 
-// Whether a map holds the entries that stand at a place, in their order.
+// Whether a map holds the entries that stand at a place, in their order. replay has the same function: stream, which both
+// use, knows no map.
 fn same_map(buf: &[u8], at: usize, map: MemoryMap) -> bool {
     let n = map.size;
     if n as u64 != stream::word(buf, at) {
@@ -131,7 +132,8 @@ fn is_claim(buf: &[u8], at: usize, count: u64, number: u64, claim: Claim) -> boo
 }
 
 // Whether the claims of a tree's blocks are the `count` at a place, or their first `enough` are. A proved loop has to
-// end, and a cursor does not show that it comes to an end, so there are so many steps and no more.
+// end, and a cursor does not show that it comes to an end, so there are so many steps and no more. The parameters are no
+// record: each of the functions that lead here has others of them, so each would take it apart and make the next.
 fn same_claims<'a>(
     buf: &'a [u8],
     at: usize,
@@ -307,7 +309,7 @@ fn replay_case(buf: &[u8], at: usize) -> Result<(), u64> {
 }
 
 // Replays case after case. A proved loop has to end, and nothing says that a stream does, so its turns are as many as
-// no run uses up.
+// no run uses up. trees has the same loop: one for both would be lent three functions, and be no shorter to read.
 fn replay<R: Read, E: Eprint>(input: &mut R, told: &E, buf: &mut [u8; SPACE]) -> Tally {
     let mut tally = stream::fresh();
     let mut have: usize = 0;

@@ -12,7 +12,7 @@ use numbers::Numbered;
 use std::io::{self, Read};
 use stream::Tally;
 
-// The bytes that are held of the stream. A case takes less than half of them.
+// The bytes that are held of the stream, with a count beside them: there is no heap. A case takes less than half of them.
 const SPACE: usize = 262144;
 
 // The numbers that can be lent to a build.
@@ -91,7 +91,7 @@ fn is_whole(buf: &[u8], at: usize, end: usize, have: usize) -> bool {
     stream::nth(buf, at, 7) <= SLOTS as u64
 }
 
-// Makes the registration at a place.
+// Makes the registration at a place. By value, so that this call is replayed too: claims_replay makes the one in a lent map.
 fn register_at(buf: &[u8], at: usize, map: MemoryMap) -> Registered
     requires { Made 4096 map }
     ensures { Made 4096 result.map }
@@ -131,7 +131,8 @@ fn is_entry(buf: &[u8], at: usize, entry: MemoryEntry) -> bool {
     stream::is_three(buf, at, entry.start, entry.end, entry.kind)
 }
 
-// Whether a map holds the entries that stand at a place, in their order.
+// Whether a map holds the entries that stand at a place, in their order. claims_replay has the same function: stream, which
+// both use, knows no map.
 fn same_map(buf: &[u8], at: usize, map: MemoryMap) -> bool {
     let n = map.size;
     if n as u64 != stream::word(buf, at) {
@@ -149,7 +150,7 @@ fn same_map(buf: &[u8], at: usize, map: MemoryMap) -> bool {
     true
 }
 
-// A limit, where its flag is not 0.
+// A limit of a build. The stream has it as a flag and a number.
 fn limit(flag: u64, at: u64) -> Option<u64> {
     (flag != 0).then_some(at)
 }
@@ -178,7 +179,7 @@ fn same_slots(buf: &[u8], at: usize, slots: &[u64; SLOTS], len: usize) -> bool {
     true
 }
 
-// Builds into the first `len` numbers.
+// Builds into the first `len` numbers. The two limits stay apart, as areas::build takes them.
 fn build(
     map: MemoryMap,
     low: Option<u64>,

@@ -9,14 +9,16 @@ use reservations::Reservation;
 use std::io::Read;
 use stream::Tally;
 
-// The bytes that are held of the stream. The largest tree takes half of them, and its text is short.
+// The bytes that are held of the stream. The largest tree takes half of them, and its text is short. There is no heap,
+// so a count of those held stands beside them, as the depth beside the nodes above and the length beside a path.
 const SPACE: usize = 2097152;
 
 // The two lengths at the start of a case, of 4 bytes each, are read as one number: the text's, this many times, and the
 // blob's.
 const LENGTHS: u64 = 0x1_0000_0000;
 
-// A place that neither a text nor a block has: what was looked for is not there, or something before it differed.
+// A place that neither a text nor a block has: what was looked for is not there, or something before it differed. A number and
+// no Option: the functions of a line hand it on unasked, since no text has a byte there.
 const NONE: usize = 0xffff_ffff;
 
 // A structure block up to which the checks are made that go over the tree once more for each node.
@@ -65,12 +67,14 @@ fn same_hex<'a>(text: &'a [u8], at: usize, bytes: &'a [u8]) -> usize {
     p
 }
 
+// The place after a number in 16 hexadecimal digits.
 fn same_number(text: &[u8], at: usize, n: u64) -> usize {
     let mut digits = [0u8; 16];
     let k = io::hex(n, 16, &mut digits);
     same_bytes(text, at, &digits[..k])
 }
 
+// The same in as many decimal digits as it has.
 fn same_decimal(text: &[u8], at: usize, n: u64) -> usize {
     let mut digits = [0u8; 20];
     let k = io::decimal(n, &mut digits);
@@ -82,6 +86,7 @@ fn is_end(text: &[u8], at: usize) -> bool {
     at == text.len()
 }
 
+// The place after the line of a reservation.
 fn same_reservation(text: &[u8], from: usize, entry: Region) -> usize {
     let a = same_bytes(text, from, b"rsv ");
     let b = same_number(text, a, entry.address);
@@ -119,7 +124,9 @@ fn property_name(strings: &[u8], a: usize, z: usize) -> &[u8] {
     words::part(strings, a, z.saturating_sub(a))
 }
 
-// The next property from a place on, past NOPs, or none.
+// The next property from a place on, past NOPs, or none: apart from nodes, whose answers it checks. A proved loop has to end, and no block
+// has more tokens than bytes: so it is with the loops over properties and children too. Those over properties end in three ways, so an
+// iterator for them would be longer than the two lines that they share.
 fn property_from<'a>(tree: Tree<'a>, from: usize) -> usize {
     let mut at = from;
     for _ in 0..tree.structure.len() {
@@ -146,6 +153,7 @@ fn property_end<'a>(tree: Tree<'a>, at: usize) -> usize {
     }
 }
 
+// The name of a property, or no bytes where no property is.
 fn name_at<'a>(tree: Tree<'a>, at: usize) -> &'a [u8] {
     match fdt::token_at(tree, at) {
         Token::Prop(_, a, z, _) => property_name(tree.strings, a, z),
@@ -251,6 +259,7 @@ fn finds_property<'a>(tree: Tree<'a>, node: usize, above: usize, at: usize) -> b
     nodes::place_of(tree, at) == 0
 }
 
+// The same for all properties of a node.
 fn finds_properties<'a>(tree: Tree<'a>, node: usize, above: usize) -> bool {
     let mut at = property_from(tree, content(tree, node));
     for _ in 0..tree.structure.len() {
@@ -288,6 +297,7 @@ fn counts(structure: &[u8], at: usize, found: CellCount) -> bool {
     }
 }
 
+// Whether both cell counts of a node are what its properties say.
 fn has_cells<'a>(tree: Tree<'a>, node: usize) -> bool {
     let address = first_named(tree, node, b"#address-cells");
     if !counts(tree.structure, address, nodes::address_cells(tree, node)) {
@@ -305,7 +315,7 @@ fn stem(name: &[u8]) -> &[u8] {
     }
 }
 
-// The name of a node, or its part before `@`.
+// The name of a node, or its part before `@`. `whole` is asked here alone, so it is a bool and no closure.
 fn step_of<'a>(tree: Tree<'a>, node: usize, whole: bool) -> &'a [u8] {
     let name = nodes::name_of(tree, node);
     if whole {
@@ -314,10 +324,12 @@ fn step_of<'a>(tree: Tree<'a>, node: usize, whole: bool) -> &'a [u8] {
     stem(name)
 }
 
+// A place of nodes as one of these checks.
 fn place(found: Option<usize>) -> usize {
     found.unwrap_or(NONE)
 }
 
+// Whether a name, or its part before `@`, is a step.
 fn matches<'a>(name: &'a [u8], step: &'a [u8]) -> bool {
     name == step || stem(name) == step
 }
@@ -337,6 +349,7 @@ fn first_child<'a>(tree: Tree<'a>, node: usize, step: &'a [u8]) -> usize {
     NONE
 }
 
+// Whether nodes::subnode finds that child.
 fn finds_child<'a>(tree: Tree<'a>, node: usize, step: &'a [u8]) -> bool {
     let found = nodes::subnode(tree, node, step);
     place(found) == first_child(tree, node, step)
@@ -367,6 +380,7 @@ fn append(path: &mut [u8; PATH], at: usize, step: &[u8]) -> usize {
     p
 }
 
+// Puts a byte at a place of a path, and answers the place after it, or none where it has no room.
 fn put(path: &mut [u8; PATH], at: usize, x: u8) -> usize {
     if at < PATH {
         path[at] = x;
@@ -375,6 +389,7 @@ fn put(path: &mut [u8; PATH], at: usize, x: u8) -> usize {
     NONE
 }
 
+// Of a node and those above it, the one at a depth, or none.
 fn up(ups: &[usize; 32], depth: usize) -> usize {
     ups.get(depth).copied().unwrap_or(NONE)
 }
@@ -407,6 +422,7 @@ fn follow<'a>(tree: Tree<'a>, ups: &[usize; 32], depth: usize, whole: bool) -> u
     node
 }
 
+// Where a path leads, or none.
 fn leads<'a>(tree: Tree<'a>, path: &'a [u8]) -> usize {
     place(nodes::path_offset(tree, path))
 }
@@ -503,6 +519,7 @@ fn next_node<'a>(tree: Tree<'a>, ups: &[usize; 32], depth: usize) -> Next {
     }
 }
 
+// Notes the node at a depth.
 fn set(ups: &mut [usize; 32], depth: usize, node: usize) {
     if depth < 32 {
         ups[depth] = node;
@@ -568,6 +585,7 @@ fn replay_tree<'a>(blob: &'a [u8], text: &'a [u8]) -> Result<(), u64> {
     }
 }
 
+// Takes the case at a place apart, and replays its tree.
 fn replay_case(buf: &[u8], at: usize) -> Result<(), u64> {
     let lengths = stream::word(buf, at);
     let blob = stream::past(buf, at, 1);
@@ -599,7 +617,7 @@ fn is_whole(buf: &[u8], at: usize, have: usize) -> bool {
 }
 
 // Replays case after case. A proved loop has to end, and nothing says that a stream does, so its turns are counted, up to a number that
-// no run uses up.
+// no run uses up. claims_replay has the same loop, and says why.
 fn replay<R: Read, E: Eprint>(input: &mut R, told: &E, buf: &mut [u8; SPACE]) -> Tally {
     let mut tally = stream::fresh();
     let mut have: usize = 0;
