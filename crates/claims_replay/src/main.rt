@@ -6,14 +6,14 @@ ghost use Rattle.memory.specs.Made.{Made};
 
 use entry::Claim;
 use fdt::{Blocks, Token, Tree};
-use memory::{MemoryMap, Registered};
+use memory::MemoryMap;
 use numbers::Numbered;
-use std::io::{Read, Result};
+use std::io::{self, Read};
 use stream::Tally;
 use translation::{Sought, Translated};
 use visit::Step;
 
-// The bytes that are held of the stream. A case has fewer.
+// The bytes that are held of the stream, with a count beside them: there is no heap. A case has fewer.
 const SPACE: usize = 131072;
 
 // No tree takes so many steps: it has no more bytes, and almost every step goes over some of them.
@@ -71,8 +71,7 @@ fn parts_of(buf: &[u8], at: usize) -> Parts {
 
 // The place after a case.
 fn end_of(buf: &[u8], at: usize) -> usize {
-    let p = parts_of(buf, at);
-    p.end
+    parts_of(buf, at).end
 }
 
 // Whether a case is there as a whole, and its flag is 0 or 1.
@@ -87,36 +86,25 @@ fn is_whole(buf: &[u8], at: usize, have: usize) -> bool {
     stream::nth(buf, at, 1) <= 1
 }
 
-// The map that a case starts from.
-fn start() -> MemoryMap
-    ensures { Made 4096 result }
-{
-    MemoryMap::empty()
-}
-
-// Makes the registration at a place.
-fn register_at(buf: &[u8], at: usize, map: MemoryMap) -> Registered
-    requires { Made 4096 map }
-    ensures { Made 4096 result.map }
-{
-    let base = stream::word(buf, at);
-    let size = stream::nth(buf, at, 1);
-    let kind = stream::nth(buf, at, 2);
-    map.register(base, size, kind)
-}
-
 // The map that the tree's call finds: the registrations at a place, made one by one.
 fn map_before(buf: &[u8], at: usize, count: u64) -> MemoryMap
     ensures { Made 4096 result }
 {
-    let mut held = start();
+    let mut held = MemoryMap::empty();
     for i in 0..count {
-        held = register_at(buf, stream::past_threes(buf, at, i), held).map;
+        let there = stream::past_threes(buf, at, i);
+        let claim = Claim {
+            base: stream::word(buf, there),
+            size: stream::nth(buf, there, 1),
+            kind: stream::nth(buf, there, 2),
+        };
+        let _ = held.register_in(claim);
     }
     held
 }
 
-// Whether a map holds the entries that stand at a place, in their order.
+// Whether a map holds the entries that stand at a place, in their order. replay has the same function: stream, which both
+// use, knows no map.
 fn same_map(buf: &[u8], at: usize, map: MemoryMap) -> bool {
     let n = map.size;
     if n as u64 != stream::word(buf, at) {
@@ -144,7 +132,8 @@ fn is_claim(buf: &[u8], at: usize, count: u64, number: u64, claim: Claim) -> boo
 }
 
 // Whether the claims of a tree's blocks are the `count` at a place, or their first `enough` are. A proved loop has to
-// end, and a cursor does not show that it comes to an end, so there are so many steps and no more.
+// end, and a cursor does not show that it comes to an end, so there are so many steps and no more. The parameters are no
+// record: each of the functions that lead here has others of them, so each would take it apart and make the next.
 fn same_claims<'a>(
     buf: &'a [u8],
     at: usize,
@@ -189,11 +178,10 @@ fn opened_claims<'a>(
     blocks: Blocks,
     arm: bool,
 ) -> bool {
-    let b = blocks.structure;
-    let n = blocks.strings;
-    let structure = words::part(tree, b.at, b.len);
-    let strings = words::part(tree, n.at, n.len);
-    let opened = Tree { structure, strings };
+    let opened = Tree {
+        structure: words::part(tree, blocks.structure.at, blocks.structure.len),
+        strings: words::part(tree, blocks.strings.at, blocks.strings.len),
+    };
     let block = reservations::reservation_block(tree, blocks);
     same_claims(buf, at, count, enough, opened, block, arm)
 }
@@ -263,11 +251,11 @@ fn same_translations<'a>(buf: &'a [u8], at: usize, tree: Tree<'a>) -> bool {
 fn tree_translations<'a>(buf: &'a [u8], at: usize, tree: &'a [u8]) -> bool {
     match fdt::open_tree(tree) {
         Ok(Some(blocks)) => {
-            let b = blocks.structure;
-            let n = blocks.strings;
-            let structure = words::part(tree, b.at, b.len);
-            let strings = words::part(tree, n.at, n.len);
-            same_translations(buf, at, Tree { structure, strings })
+            let opened = Tree {
+                structure: words::part(tree, blocks.structure.at, blocks.structure.len),
+                strings: words::part(tree, blocks.strings.at, blocks.strings.len),
+            };
+            same_translations(buf, at, opened)
         }
         Ok(None) | Err(_) => stream::word(buf, at) == 0,
     }
@@ -295,33 +283,33 @@ fn answered_claims<'a>(
     tree_claims(buf, at, count, count, tree, arm)
 }
 
-// Makes the calls of the case at a place, and answers the first part that differs: 1 the answer, 2 a claim or the number
+// Makes the calls of the case at a place. `Err` is the first part that differs: 1 the answer, 2 a claim or the number
 // of claims, 3 the map, 4 a translated address, the number of nodes tried, or the number of nodes.
-fn replay_case(buf: &[u8], at: usize) -> u64 {
+fn replay_case(buf: &[u8], at: usize) -> Result<(), u64> {
     let p = parts_of(buf, at);
     let tree = words::part(buf, p.tree, stream::nth(buf, at, 2) as usize);
     let arm = stream::nth(buf, at, 1) == 1;
     let map = map_before(buf, p.before, stream::word(buf, at));
     let r = dtb::register_devicetree(map, tree, arm);
-    let number = stream::wide(r.answer.number());
+    let number = u64::from(r.answer.number());
     if number != stream::word(buf, p.answer) {
-        return 1;
+        return Err(1);
     }
     let count = stream::nth(buf, at, 3);
     if !answered_claims(buf, p.claims, count, number, tree, arm) {
-        return 2;
+        return Err(2);
     }
     if !same_map(buf, p.map, r.map) {
-        return 3;
+        return Err(3);
     }
     if !tree_translations(buf, p.translations, tree) {
-        return 4;
+        return Err(4);
     }
-    0
+    Ok(())
 }
 
 // Replays case after case. A proved loop has to end, and nothing says that a stream does, so its turns are as many as
-// no run uses up.
+// no run uses up. trees has the same loop: one for both would be lent three functions, and be no shorter to read.
 fn replay<R: Read, E: Eprint>(input: &mut R, told: &E, buf: &mut [u8; SPACE]) -> Tally {
     let mut tally = stream::fresh();
     let mut have: usize = 0;
@@ -338,13 +326,13 @@ fn replay<R: Read, E: Eprint>(input: &mut R, told: &E, buf: &mut [u8; SPACE]) ->
                 return tally;
             }
         }
-        tally = stream::counted(tally, replay_case(buf, at));
+        tally = stream::counted(tally, replay_case(buf, at).err().unwrap_or(0));
         at = end_of(buf, at);
     }
     tally
 }
 
-fn main(rt: HostRuntime) -> Result<()> {
+fn main(rt: HostRuntime) -> io::Result<()> {
     let mut buf = [0u8; SPACE];
     let tally = replay(&mut rt.stdin(), &rt, &mut buf);
     stream::report(&rt, tally, b"case")

@@ -12,7 +12,7 @@ use numbers::Numbered;
 use std::io::{self, Read};
 use stream::Tally;
 
-// The bytes that are held of the stream. A case takes less than half of them.
+// The bytes that are held of the stream, with a count beside them: there is no heap. A case takes less than half of them.
 const SPACE: usize = 262144;
 
 // The numbers that can be lent to a build.
@@ -91,14 +91,7 @@ fn is_whole(buf: &[u8], at: usize, end: usize, have: usize) -> bool {
     stream::nth(buf, at, 7) <= SLOTS as u64
 }
 
-// The map that a case starts from.
-fn start() -> MemoryMap
-    ensures { Made 4096 result }
-{
-    MemoryMap::empty()
-}
-
-// Makes the registration at a place.
+// Makes the registration at a place. By value, so that this call is replayed too: claims_replay makes the one in a lent map.
 fn register_at(buf: &[u8], at: usize, map: MemoryMap) -> Registered
     requires { Made 4096 map }
     ensures { Made 4096 result.map }
@@ -117,28 +110,19 @@ fn register_each(buf: &[u8], p: Parts, map: &mut MemoryMap, from: u64, to: u64) 
     for i in from..to {
         let r = register_at(buf, stream::past_threes(buf, p.claims, i), *map);
         *map = r.map;
-        if stream::wide(r.answer.number()) != stream::nth(buf, p.answers, i) {
+        if u64::from(r.answer.number()) != stream::nth(buf, p.answers, i) {
             return false;
         }
     }
     true
 }
 
-fn least(a: usize, b: usize) -> usize
-    ensures { result ≤ b }
-{
-    if a < b { a } else { b }
-}
-
 // Hands the registrations from number `from` up to `to`, with the bytes of the tail, over as one list.
 fn register_list(buf: &[u8], p: Parts, map: MemoryMap, from: u64, to: u64, tail: u64) -> Registered
     requires { Made 4096 map }
 {
-    let end = least(
-        stream::forward(buf, stream::past_threes(buf, p.claims, to), tail),
-        buf.len(),
-    );
-    let start = least(stream::past_threes(buf, p.claims, from), end);
+    let end = stream::forward(buf, stream::past_threes(buf, p.claims, to), tail).min(buf.len());
+    let start = stream::past_threes(buf, p.claims, from).min(end);
     bootloader::register_bootloader_areas(map, &buf[start..end])
 }
 
@@ -147,7 +131,8 @@ fn is_entry(buf: &[u8], at: usize, entry: MemoryEntry) -> bool {
     stream::is_three(buf, at, entry.start, entry.end, entry.kind)
 }
 
-// Whether a map holds the entries that stand at a place, in their order.
+// Whether a map holds the entries that stand at a place, in their order. claims_replay has the same function: stream, which
+// both use, knows no map.
 fn same_map(buf: &[u8], at: usize, map: MemoryMap) -> bool {
     let n = map.size;
     if n as u64 != stream::word(buf, at) {
@@ -165,8 +150,9 @@ fn same_map(buf: &[u8], at: usize, map: MemoryMap) -> bool {
     true
 }
 
+// A limit of a build. The stream has it as a flag and a number.
 fn limit(flag: u64, at: u64) -> Option<u64> {
-    if flag == 0 { None } else { Some(at) }
+    (flag != 0).then_some(at)
 }
 
 // The numbers that a build is lent, each of another value.
@@ -193,7 +179,7 @@ fn same_slots(buf: &[u8], at: usize, slots: &[u64; SLOTS], len: usize) -> bool {
     true
 }
 
-// Builds into the first `len` numbers.
+// Builds into the first `len` numbers. The two limits stay apart, as areas::build takes them.
 fn build(
     map: MemoryMap,
     low: Option<u64>,
@@ -203,12 +189,12 @@ fn build(
 ) -> Result<usize, AreasRefusal>
     requires { Made 4096 map }
 {
-    let n = least(len, slots.len());
+    let n = len.min(slots.len());
     areas::build(map, low, high, &mut slots[..n])
 }
 
-// Builds the areas of a map, and answers the part that differs.
-fn replay_build(buf: &[u8], at: usize, p: Parts, map: MemoryMap) -> u64
+// Builds the areas of a map. `Err` is the part that differs.
+fn replay_build(buf: &[u8], at: usize, p: Parts, map: MemoryMap) -> Result<(), u64>
     requires { Made 4096 map }
 {
     let low = limit(stream::nth(buf, at, 3), stream::nth(buf, at, 4));
@@ -216,16 +202,16 @@ fn replay_build(buf: &[u8], at: usize, p: Parts, map: MemoryMap) -> u64
     let len = stream::nth(buf, at, 7) as usize;
     let mut slots = untouched();
     let built = build(map, low, high, &mut slots, len);
-    if stream::wide(built.number()) != stream::word(buf, p.built) {
-        return 6;
+    if u64::from(built.number()) != stream::word(buf, p.built) {
+        return Err(6);
     }
     if built.unwrap_or(0) as u64 != stream::nth(buf, p.built, 1) {
-        return 6;
+        return Err(6);
     }
-    if same_slots(buf, stream::past(buf, p.built, 2), &slots, len) {
-        return 0;
+    if !same_slots(buf, stream::past(buf, p.built, 2), &slots, len) {
+        return Err(7);
     }
-    7
+    Ok(())
 }
 
 // Whether an entry, or none, stands at a place.
@@ -257,41 +243,38 @@ fn same_listings(buf: &[u8], p: Parts, map: MemoryMap) -> bool
     same_entry(buf, p.kernel, listing::kernel(map))
 }
 
-// Makes the calls of the case at a place, and answers the first part that differs: 1 a registration's answer, 2 the
-// list's, 3 the map after the first registrations, 4 after the list, 5 after all, 6 the build's answer, 7 the areas,
+// Makes the calls of the case at a place. `Err` is the first part that differs: 1 a registration's answer, 2 the list's,
+// 3 the map after the first registrations, 4 after the list, 5 after all, 6 the build's answer, 7 the areas,
 // 8 a listing of the map after all.
-fn replay_case(buf: &[u8], at: usize, p: Parts) -> u64 {
+fn replay_case(buf: &[u8], at: usize, p: Parts) -> Result<(), u64> {
     let n = stream::word(buf, at);
     let k = stream::nth(buf, at, 1);
-    let mut held = start();
+    let mut held = MemoryMap::empty();
     if !register_each(buf, p, &mut held, 0, k) {
-        return 1;
+        return Err(1);
     }
     let mut all = held;
     if !register_each(buf, p, &mut all, k, n) {
-        return 1;
+        return Err(1);
     }
     let listed = register_list(buf, p, held, k, n, stream::nth(buf, at, 2));
-    if stream::wide(listed.answer.number()) != stream::word(buf, p.listed) {
-        return 2;
+    if u64::from(listed.answer.number()) != stream::word(buf, p.listed) {
+        return Err(2);
     }
     if !same_map(buf, p.first, held) {
-        return 3;
+        return Err(3);
     }
     if !same_map(buf, p.list, listed.map) {
-        return 4;
+        return Err(4);
     }
     if !same_map(buf, p.all, all) {
-        return 5;
+        return Err(5);
     }
-    let part = replay_build(buf, at, p, all);
-    if part != 0 {
-        return part;
+    replay_build(buf, at, p, all)?;
+    if !same_listings(buf, p, all) {
+        return Err(8);
     }
-    if same_listings(buf, p, all) {
-        return 0;
-    }
-    8
+    Ok(())
 }
 
 // Replays case after case. A proved loop has to end, and nothing says that a stream does, so its turns are as many as no run uses up.
@@ -312,7 +295,7 @@ fn replay<R: Read, E: Eprint>(input: &mut R, told: &E, buf: &mut [u8; SPACE]) ->
             tally.cut = true;
             return tally;
         }
-        tally = stream::counted(tally, replay_case(buf, at, p));
+        tally = stream::counted(tally, replay_case(buf, at, p).err().unwrap_or(0));
         at = p.end;
     }
     tally

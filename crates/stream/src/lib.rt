@@ -1,6 +1,7 @@
 // A stream of cases on standard input, each with the answers of another program: the bytes of it that are held, the
 // numbers in them, and the tally of what differs. Each program lends a space for the bytes that has room for its largest
-// case. No contract can say what the system gives or takes, so `refill` and `report` have none.
+// case, with a count of those held beside it: there is no heap. No contract can say what the system gives or takes, so
+// `refill` and `report` have none.
 #![tactic(auto)]
 
 ghost use Rattle.std.specs.Prelude.{◌≡◌, ◌+◌, ◌*◌, ◌<◌};
@@ -9,7 +10,8 @@ ghost use Rattle.stream.specs.Cases.{NumberAt, Three, Tells, Ahead, none, and_ca
 use std::io::{Read, Result};
 
 // How many cases there were, how many of them differ, and the first that does, counted from 0, with its part. `cut` says
-// that the stream ended, or made no sense, in the midst of a case.
+// that the stream ended, or made no sense, in the midst of a case. The first is no Option: `none` and `and_case`, by which
+// the contracts speak, have it as two numbers.
 #[derive(Clone, Copy)]
 pub struct Tally {
     pub cases: u64,
@@ -19,13 +21,8 @@ pub struct Tally {
     pub cut: bool,
 }
 
-pub fn wide(x: u8) -> u64
-    ensures { (result ≡ x) × (result < 256) }
-{
-    u64::from(x)
-}
-
-// The number in the 8 bytes at a place, the lowest byte first, or 0 where the space does not have them.
+// The number in the 8 bytes at a place, the lowest byte first, or 0 where the space does not have them: no Option, since
+// `NumberAt` says so, and words reads so too.
 pub fn word(space: &[u8], at: usize) -> u64
     ensures { NumberAt space.now at result }
 {
@@ -123,7 +120,7 @@ pub fn fresh() -> Tally
     }
 }
 
-// With one case more, and the part of it that differs, or 0.
+// With one case more, and the part of it that differs, or 0: no Option, since `and_case` takes a number.
 #[tactic(auto, unfolding(crate::specs::Cases::and_case))]
 pub fn counted(tally: Tally, part: u64) -> Tally
     ensures { result ≡ and_case tally part }

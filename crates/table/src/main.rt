@@ -14,7 +14,7 @@ fn print_refusal<P: Print>(out: &P, number: u8) -> io::Result<()> {
     println!(out; "refused {number}")
 }
 
-// One line for each of the first n areas.
+// One line for each of the first n areas: numbers and a count, as areas::build leaves them.
 fn print_areas<P: Print>(out: &P, slots: &[u64], n: usize) -> io::Result<()> {
     println!(out; "areas {n}")?;
     for slot in slots.chunks_exact(2).take(n) {

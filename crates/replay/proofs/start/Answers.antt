@@ -1,6 +1,0 @@
--- `start` hands out a map that a caller can register in.
-use Rattle.memory.proofs.MapLaws.{blank_made}
-use Rattle.replay.proofs.start.Goals as goal
-
-pub returns : goal.returns
-returns c = rw c.empty.ensures (blank_made 4096)
