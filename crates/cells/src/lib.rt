@@ -6,7 +6,8 @@ ghost use Rattle.cells.specs.Count.{stated_by, cell_bytes, width_by};
 ghost use Rattle.cells.specs.Rows.{number_at, reg_of, ranges_of, reg_row, range_row};
 ghost use Rattle.cells.specs.Text.{text_of};
 
-// What a cell property of a node says: so many cells; it is not there; or it is not 4 bytes long.
+// What a cell property of a node says: so many cells; it is not there; or it is not 4 bytes long. Definitions name the three ways, and a
+// Result with an Option in it would be no plainer.
 #[derive(Clone, Copy)]
 pub enum CellCount {
     Stated(usize),
@@ -36,7 +37,7 @@ pub struct Range {
     pub size: u64,
 }
 
-// A row of `reg` by its number: the value is unreadable, there are fewer rows, or the row.
+// A row of `reg` by its number: the value is unreadable, there are fewer rows, or the row. Three ways, as in CellCount.
 #[derive(Clone, Copy)]
 pub enum RegRow {
     NoReg,
@@ -44,7 +45,7 @@ pub enum RegRow {
     RegAt(Region),
 }
 
-// The same of `ranges`.
+// The same of `ranges`. Definitions name the ways of each apart, so it is no one type over the row.
 #[derive(Clone, Copy)]
 pub enum RangeRow {
     NoRange,
@@ -62,7 +63,7 @@ pub fn stated(v: &[u8]) -> CellCount
     CellCount::Faulty
 }
 
-// How many bytes so many cells take; 0 where they are not 1 or 2.
+// How many bytes so many cells take; 0 where they are not 1 or 2, as in its definition.
 fn cell_bytes(c: usize) -> usize
     ensures { result ≡ cell_bytes c }
 {
@@ -75,6 +76,7 @@ fn cell_bytes(c: usize) -> usize
     0
 }
 
+// The same of what a cell property says, where so many cells stand for one that is not there.
 fn width(c: CellCount, missing: usize) -> usize
     ensures { result ≡ width_by c missing }
 {
@@ -95,7 +97,8 @@ fn number(v: &[u8], w: usize, at: usize) -> u64
     words::be64(v, at)
 }
 
-// Row i of a value of `reg`, by the cells of the node's parent.
+// Row i of a value of `reg`, by the cells of the node's parent. It and range_row are no one walk: the rows have two numbers and three, and each
+// has a definition of its own.
 pub fn reg_row(v: &[u8], cells: Cells, i: usize) -> RegRow
     ensures { result ≡ reg_row (reg_of cells.address cells.size v.now) i }
 {

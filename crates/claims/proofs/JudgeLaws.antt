@@ -65,6 +65,21 @@ ranges_unreadable unreadable = refl
 ranges_unreadable (rows []) = refl
 ranges_unreadable (rows (r ∷ l)) = refl
 
+pub no_unreadable : (x : RegRow) → (x ≡ NoReg → ⊥) → false ≡ no_reg x
+no_unreadable NoReg h = absurd (h refl)
+no_unreadable PastReg h = refl
+no_unreadable (RegAt r) h = refl
+
+pub no_entry : (x : RegRow) → ((r : Region) → x ≡ RegAt r → ⊥) → false ≡ some_reg x
+no_entry NoReg h = refl
+no_entry PastReg h = refl
+no_entry (RegAt r) h = absurd (h r refl)
+
+pub readable_row : (x : RangeRow) → (x ≡ NoRange → ⊥) → no_range x ≡ false
+readable_row NoRange h = absurd (h refl)
+readable_row PastRange h = refl
+readable_row (RangeAt r) h = refl
+
 -- ── A child ──
 and_false : (t : Bool) → false ≡ t && false
 and_false true = refl

@@ -16,7 +16,8 @@ use fdt::{Block, Tree};
 use numbers::Numbered;
 use windows::{Bus, Window};
 
-// By which rule children claim memory: as those of /reserved-memory, as those of /soc, or as the root's.
+// By which rule children claim memory: as those of /reserved-memory, as those of /soc, or as the root's. A rule is a value and no trait, for
+// definitions go by it as well.
 #[derive(Clone, Copy)]
 pub enum Way {
     Reserve,
@@ -31,13 +32,12 @@ impl Way {
     {
         match self {
             Way::Reserve => 3,
-            Way::Soc => 0x101,
-            Way::Controllers => 0x101,
+            Way::Soc | Way::Controllers => 0x101,
         }
     }
 }
 
-// What a tree is refused for, beyond its form.
+// What a tree is refused for, beyond its form. The calls above repeat these cases among their own: a number as discriminant wants a flat enum.
 #[derive(Clone, Copy)]
 pub enum ValueFault {
     UnreadableReg = 7,
@@ -52,7 +52,8 @@ impl Numbered for ValueFault {
     }
 }
 
-// A region of the root's child: there is no bus to go through, and so its end alone is looked at.
+// A region of the root's child: there is no bus to go through, and so its end alone is looked at. The end of translation tests it alike, but
+// each has a definition of its own.
 fn at_root(region: Region) -> Window
     ensures { result ≡ lands_by Controllers (rows []) region.address region.size }
 {
@@ -137,7 +138,8 @@ pub fn is_qemu_virt<'a>(tree: Tree<'a>, arm: bool) -> bool
     )
 }
 
-// Whether a child is what some_child looks for.
+// Whether a child is a counted reserved one whose `reg` cannot be read, where `reserved`, or else one that has a readable entry. `reserved` is
+// the definition's own argument.
 fn child_is<'a>(tree: Tree<'a>, child: usize, cells: Cells, reserved: bool) -> bool
     ensures { result ≡ child_is reserved cells.address cells.size (props_of (node_at tree.entry.structure.now tree.entry.strings.now child)) }
 {
@@ -150,17 +152,9 @@ fn child_is<'a>(tree: Tree<'a>, child: usize, cells: Cells, reserved: bool) -> b
         if !reserved::reserved_memory_node_is_available(tree, child) {
             return false;
         }
-        return match first {
-            RegRow::NoReg => true,
-            RegRow::PastReg => false,
-            RegRow::RegAt(_) => false,
-        };
+        return matches!(first, RegRow::NoReg);
     }
-    match first {
-        RegRow::NoReg => false,
-        RegRow::PastReg => false,
-        RegRow::RegAt(_) => true,
-    }
+    matches!(first, RegRow::RegAt(_))
 }
 
 // Whether some child from a first one on is a counted reserved one with an unreadable `reg`, or else has a readable entry.
@@ -205,14 +199,11 @@ fn bad_ranges<'a>(tree: Tree<'a>, root: usize) -> bool
     let value = words::part(tree.structure, ranges.at, ranges.len);
     let own = nodes::cells_of(tree, soc);
     let parent = nodes::address_cells(tree, root);
-    match cells::range_row(value, own, parent, 0) {
-        RangeRow::NoRange => {
-            let first = nodes::first_subnode(tree, soc);
-            some_child(tree, first, own, false)
-        }
-        RangeRow::PastRange => false,
-        RangeRow::RangeAt(_) => false,
-    }
+    let RangeRow::NoRange = cells::range_row(value, own, parent, 0) else {
+        return false;
+    };
+    let first = nodes::first_subnode(tree, soc);
+    some_child(tree, first, own, false)
 }
 
 // What the tree is refused for: 7 is judged before 8, and both before its first claim is registered.

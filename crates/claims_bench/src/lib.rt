@@ -13,6 +13,5 @@ pub extern "C" fn bench_claims(tree: &[u8], arm: bool) -> usize
     ensures { result ≡ (tree_registered 4096 blank tree.now arm).map.size }
 {
     let r = dtb::register_devicetree(MemoryMap::empty(), tree, arm);
-    let map = r.map;
-    map.size
+    r.map.size
 }

@@ -16,7 +16,8 @@ use memory::{MapRefusal, MemoryMap};
 use numbers::Numbered;
 use visit::Step;
 
-// Why the tree's call is refused. Each case has its number in document 01.
+// Why the tree's call is refused. Each case has its number in document 01, and as the number's enum has to be flat it repeats those of TreeFault
+// and ValueFault.
 #[derive(Clone, Copy)]
 pub enum TreeRefusal {
     BadHeader = 4,

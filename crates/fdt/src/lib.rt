@@ -24,7 +24,7 @@ pub enum Token {
     Fin,
 }
 
-// What a tree is refused for, by its form.
+// What a tree is refused for, by its form. The calls above repeat these cases among their own: a number as discriminant wants a flat enum.
 #[derive(Clone, Copy)]
 pub enum TreeFault {
     BadHeader = 4,
@@ -226,8 +226,7 @@ fn walk<'a>(tree: Tree<'a>) -> Result<(), TreeFault>
         props: false,
     };
     loop {
-        let at = st.at;
-        match stepped(st, token_at(tree, at)) {
+        match stepped(st, token_at(tree, st.at)) {
             Step::Go(next) => {
                 st = next;
             }
@@ -312,11 +311,9 @@ pub fn open_tree(s: &[u8]) -> Result<Option<Blocks>, TreeFault>
         return Err(TreeFault::OverLimit);
     }
     let found = blocks_of(s);
-    let b = found.structure;
-    let n = found.strings;
     walk(Tree {
-        structure: words::part(s, b.at, b.len),
-        strings: words::part(s, n.at, n.len),
+        structure: words::part(s, found.structure.at, found.structure.len),
+        strings: words::part(s, found.strings.at, found.strings.len),
     })?;
     Ok(Some(found))
 }

@@ -1,5 +1,6 @@
 // Reading an opened tree: names, children, properties, paths and document order. Each function takes the tree's blocks and a place in
-// the structure block; whatever these are, it answers. A node's place is that of its FDT_BEGIN_NODE token.
+// the structure block; whatever these are, it answers. A node's place is that of its FDT_BEGIN_NODE token. The functions are no methods of
+// a node, for the kernel's getprop and subnode are none.
 #![tactic(auto)]
 
 ghost use Rattle.std.specs.Prelude.{◌≡◌, ◌||◌, ◌≤◌, length};
@@ -14,7 +15,7 @@ use cells::{CellCount, Cells};
 use fdt::{Block, Token, Tree};
 
 // What stands past the properties: a child, with the length of its name and the place after its name; the end of the node, with the
-// place after it; or a token at which nothing goes on.
+// place after it; or a token at which nothing goes on. Three ways, each named by a definition of its own, so it is no Option.
 #[derive(Clone, Copy)]
 enum Kid {
     Node(usize, usize, usize),
@@ -22,7 +23,7 @@ enum Kid {
     Stuck,
 }
 
-// Whether two parts of bytes are the same.
+// Whether two parts of bytes are the same. A name for `==`, for contracts speak of its definition.
 pub fn same<'a>(a: &'a [u8], b: &'a [u8]) -> bool
     ensures { result ≡ same_bytes a.now b.now }
 {
@@ -46,11 +47,7 @@ fn content_of<'a>(tree: Tree<'a>, node: usize) -> Option<usize>
 {
     match fdt::token_at(tree, node) {
         Token::Begin(_, next) => Some(next),
-        Token::Bad => None,
-        Token::Nop(_) => None,
-        Token::EndNode(_) => None,
-        Token::Prop(_, _, _, _) => None,
-        Token::Fin => None,
+        _ => None,
     }
 }
 
@@ -60,11 +57,7 @@ pub fn name_of<'a>(tree: Tree<'a>, node: usize) -> &'a [u8]
 {
     match fdt::token_at(tree, node) {
         Token::Begin(len, _) => words::part(tree.structure, node + 4, len),
-        Token::Bad => words::part(tree.structure, 0, 0),
-        Token::Nop(_) => words::part(tree.structure, 0, 0),
-        Token::EndNode(_) => words::part(tree.structure, 0, 0),
-        Token::Prop(_, _, _, _) => words::part(tree.structure, 0, 0),
-        Token::Fin => words::part(tree.structure, 0, 0),
+        _ => words::part(tree.structure, 0, 0),
     }
 }
 
@@ -75,10 +68,7 @@ fn next_kid<'a>(tree: Tree<'a>, p: usize) -> Kid
     let mut at = p;
     loop {
         match fdt::token_at(tree, at) {
-            Token::Nop(next) => {
-                at = next;
-            }
-            Token::Prop(_, _, _, next) => {
+            Token::Nop(next) | Token::Prop(_, _, _, next) => {
                 at = next;
             }
             Token::Begin(len, next) => {
@@ -87,17 +77,15 @@ fn next_kid<'a>(tree: Tree<'a>, p: usize) -> Kid
             Token::EndNode(next) => {
                 return Kid::End(next);
             }
-            Token::Fin => {
-                return Kid::Stuck;
-            }
-            Token::Bad => {
+            Token::Fin | Token::Bad => {
                 return Kid::Stuck;
             }
         }
     }
 }
 
-// The place past the end of the node in which p stands, after its name; or a place where nothing goes on.
+// The place past the end of the node in which p stands, after its name; or a place where nothing goes on. Nop and Prop are no one arm, here
+// and in place_of: the loop's goals would have no lasting names.
 fn skip<'a>(tree: Tree<'a>, p: usize) -> usize
     ensures { SkipsTo tree.entry.structure.now tree.entry.strings.now p result }
 {
@@ -122,10 +110,7 @@ fn skip<'a>(tree: Tree<'a>, p: usize) -> usize
                 at = next;
                 depth -= 1;
             }
-            Token::Fin => {
-                return at;
-            }
-            Token::Bad => {
+            Token::Fin | Token::Bad => {
                 return at;
             }
         }
@@ -138,8 +123,7 @@ fn kid_from<'a>(tree: Tree<'a>, p: usize) -> Option<usize>
 {
     match next_kid(tree, p) {
         Kid::Node(q, _, _) => Some(q),
-        Kid::End(_) => None,
-        Kid::Stuck => None,
+        Kid::End(_) | Kid::Stuck => None,
     }
 }
 
@@ -175,16 +159,7 @@ fn prop_from<'a>(tree: Tree<'a>, p: usize, name: &'a [u8]) -> Option<Block>
                 }
                 at = next;
             }
-            Token::Begin(_, _) => {
-                return None;
-            }
-            Token::EndNode(_) => {
-                return None;
-            }
-            Token::Fin => {
-                return None;
-            }
-            Token::Bad => {
+            Token::Begin(_, _) | Token::EndNode(_) | Token::Fin | Token::Bad => {
                 return None;
             }
         }
@@ -213,10 +188,7 @@ fn child_from<'a>(tree: Tree<'a>, p: usize, step: &'a [u8]) -> Option<usize>
                 }
                 at = skip(tree, next);
             }
-            Kid::End(_) => {
-                return None;
-            }
-            Kid::Stuck => {
+            Kid::End(_) | Kid::Stuck => {
                 return None;
             }
         }
@@ -247,6 +219,7 @@ pub fn path_offset<'a>(tree: Tree<'a>, path: &'a [u8]) -> Option<usize>
     }
     let mut node = root;
     let mut i: usize = 1;
+    // A `loop`: how many steps a path has shows only as it is read.
     loop {
         let end = words::byte_from(path, i, b'/');
         if end <= i {
@@ -261,7 +234,8 @@ pub fn path_offset<'a>(tree: Tree<'a>, path: &'a [u8]) -> Option<usize>
     }
 }
 
-// The number of the node at a place among the nodes below the root, in document order, the root's first child being 1; 0 for none.
+// The number of the node at a place among the nodes below the root, in document order, the root's first child being 1; 0 for none, as in
+// its definition.
 pub fn place_of<'a>(tree: Tree<'a>, target: usize) -> usize
     ensures { result ≡ place_at tree.entry.structure.now tree.entry.strings.now target }
 {
@@ -285,10 +259,7 @@ pub fn place_of<'a>(tree: Tree<'a>, target: usize) -> usize
             Token::EndNode(next) => {
                 at = next;
             }
-            Token::Fin => {
-                return 0;
-            }
-            Token::Bad => {
+            Token::Fin | Token::Bad => {
                 return 0;
             }
         }

@@ -7,7 +7,8 @@ ghost use Rattle.reservations.specs.Reservations.{block_in, entry_of};
 use cells::Region;
 use fdt::Blocks;
 
-// An entry by its number: an address and a size; the end, (0, 0); or that no whole entry is left.
+// An entry by its number: an address and a size; the end, (0, 0); or that no whole entry is left. Three ways, as its
+// definition has them, so it is no Option.
 #[derive(Clone, Copy)]
 pub enum Reservation {
     Entry(Region),
@@ -20,8 +21,7 @@ pub fn reservation_block(s: &[u8], blocks: Blocks) -> &[u8]
     ensures { result.now ≡ block_in s.now blocks }
 {
     let at = blocks.reservations;
-    let structure = blocks.structure;
-    let end = structure.at;
+    let end = blocks.structure.at;
     if at < 40 {
         return words::part(s, 0, 0);
     }

@@ -32,14 +32,9 @@ pub fn cells_to_usize(bytes: &[u8], cells: usize) -> Option<u64>
 fn stated_alike(root: CellCount, own: CellCount) -> bool
     ensures { result ≡ stated_alike root own }
 {
-    match root {
-        CellCount::Stated(x) => match own {
-            CellCount::Stated(y) => x == y,
-            CellCount::Absent => false,
-            CellCount::Faulty => false,
-        },
-        CellCount::Absent => false,
-        CellCount::Faulty => false,
+    match (root, own) {
+        (CellCount::Stated(x), CellCount::Stated(y)) => x == y,
+        _ => false,
     }
 }
 
@@ -72,7 +67,7 @@ pub fn reserved_memory_node_is_available<'a>(tree: Tree<'a>, node: usize) -> boo
 }
 
 // The one region that a dynamic reservation can only be, where its `alloc-ranges` leave it no choice. Both values are read by
-// /reserved-memory's own cells.
+// /reserved-memory's own cells. Of the region's end only that it fits is asked, so it is no `checked_add`.
 pub fn visit_exact_dynamic_reserved_memory_range<'a>(
     size: &'a [u8],
     ranges: &'a [u8],

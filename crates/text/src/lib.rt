@@ -15,7 +15,7 @@ pub fn string_of<'a>(tree: Tree<'a>, node: usize, name: &'a [u8]) -> Option<Bloc
     Some(Block { at: value.at, len })
 }
 
-// Whether some part of a string is another.
+// Whether some part of a string is another. By its places, for `windows` takes no empty part.
 pub fn holds<'a>(text: &'a [u8], part: &'a [u8]) -> bool
     ensures { result ≡ contains text.now part.now }
 {

@@ -47,11 +47,22 @@ module _ (f : Search) (x size k : ℕ) (e : f ≡ Gone x size k) where
   unfolding finished arrived
   ends_past h = rw (e, lt-leb (x + reach size) (2 ^ 64 - 1) h)
 
+pub ends_nowhere : (f : Search) → ((x size k : ℕ) → f ≡ Gone x size k → ⊥) → None ≡ finished f
+unfolding finished
+ends_nowhere (Gone x size k) h = absurd (h x size k refl)
+ends_nowhere Lost h = refl
+ends_nowhere (On m) h = refl
+
 -- ── Through a bus ──
 
 -- w is what the bus at hand does with the region that its children gave
 pub up_gone : (W : ℕ → ℕ → Window) (f : Search) (x size k : ℕ) (v w : Window) → f ≡ Gone x size k → v ≡ W x size → v ≡ w → via_window w size k ≡ up_through W f
 up_gone W f x size k v w e h i = rw (e, ← h, i)
+
+pub up_other : (W : ℕ → ℕ → Window) (f : Search) → ((x size k : ℕ) → f ≡ Gone x size k → ⊥) → f ≡ up_through W f
+up_other W (Gone x size k) h = absurd (h x size k refl)
+up_other W Lost h = refl
+up_other W (On m) h = refl
 
 -- ── A node's properties ──
 
@@ -158,6 +169,12 @@ module _ (b n : List ℕ) (q target : ℕ) (s : Sought) (a c : CellCount) (k : �
   is_other f o z inner r ne e i j h u = rw (ne_eqb q target ne, ← below b n q target s (k + 1) f o z inner e i j h) u
 
 -- ── The nodes in a row ──
+
+-- what is not to go on is the answer
+pub stays : (f : Search) (g : ℕ → Search) → ((m : ℕ) → f ≡ On m → ⊥) → f ≡ or_on f g
+stays (Gone x size k) g h = refl
+stays Lost g h = refl
+stays (On m) g h = absurd (h m refl)
 
 -- the search from the first of them on is the search from this one on
 pub record Goes (b n : List ℕ) (target : ℕ) (s : Sought) (a c : CellCount) (first : Option ℕ) (before : ℕ) (child : Option ℕ) (number : ℕ) : Type 0 where

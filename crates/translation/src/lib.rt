@@ -39,7 +39,7 @@ pub fn number(found: Option<Translated>) -> usize
 }
 
 // A search under way: the target's address and size so far and the number of nodes tried; the target was met and has no address; or it
-// was not met among so many nodes.
+// was not met among so many nodes. Three ways, each named by definitions, so it is no Option.
 #[derive(Clone, Copy)]
 enum Search {
     Gone(u64, u64, usize),
@@ -58,8 +58,7 @@ fn begin_at<'a>(tree: Tree<'a>, node: usize, cells: Cells, sought: Sought, numbe
                 let value = words::part(tree.structure, reg.at, reg.len);
                 match cells::reg_row(value, cells, 0) {
                     RegRow::RegAt(region) => Search::Gone(region.address, region.size, number),
-                    RegRow::PastReg => Search::Lost,
-                    RegRow::NoReg => Search::Lost,
+                    RegRow::PastReg | RegRow::NoReg => Search::Lost,
                 }
             }
             None => Search::Lost,
@@ -88,16 +87,12 @@ fn over_bus<'a>(tree: Tree<'a>, node: usize, parent: CellCount, region: Region) 
 fn up_through<'a>(tree: Tree<'a>, bus: usize, parent: CellCount, found: Search) -> Search
     ensures { result ≡ up_through (λ x size. over (props_of (node_at tree.entry.structure.now tree.entry.strings.now bus)) parent x size) found }
 {
-    match found {
-        Search::Gone(address, size, number) => {
-            match over_bus(tree, bus, parent, Region { address, size }) {
-                Window::To(to) => Search::Gone(to, size, number),
-                Window::Nowhere => Search::Lost,
-                Window::Unreadable => Search::Lost,
-            }
-        }
-        Search::Lost => Search::Lost,
-        Search::On(number) => Search::On(number),
+    let Search::Gone(address, size, number) = found else {
+        return found;
+    };
+    match over_bus(tree, bus, parent, Region { address, size }) {
+        Window::To(to) => Search::Gone(to, size, number),
+        Window::Nowhere | Window::Unreadable => Search::Lost,
     }
 }
 
@@ -144,40 +139,31 @@ fn translate_from_children<'a>(
     let mut child = first;
     let mut tried = before;
     while let Some(node) = child {
-        match translate_from_subtree(tree, node, cells, target, sought, tried) {
-            Search::Gone(to, len, found) => {
-                return Search::Gone(to, len, found);
-            }
-            Search::Lost => {
-                return Search::Lost;
-            }
-            Search::On(passed) => {
-                tried = passed;
-                child = nodes::next_subnode(tree, node);
-            }
-        }
+        let found = translate_from_subtree(tree, node, cells, target, sought, tried);
+        let Search::On(passed) = found else {
+            return found;
+        };
+        tried = passed;
+        child = nodes::next_subnode(tree, node);
     }
     Search::On(tried)
 }
 
-// What the search gives in the end: the whole region has to lie below 2^64.
+// What the search gives in the end: the whole region has to lie below 2^64. Only that its end fits is asked, so it is no `checked_add`.
 fn finish(found: Search) -> Option<Translated>
     ensures { result ≡ finished found }
 {
-    match found {
-        Search::Gone(address, size, tried) => {
-            let region = Region { address, size };
-            if size == 0 {
-                return Some(Translated { region, tried });
-            }
-            if 0xffff_ffff_ffff_ffff - address < size - 1 {
-                return None;
-            }
-            Some(Translated { region, tried })
-        }
-        Search::Lost => None,
-        Search::On(_) => None,
+    let Search::Gone(address, size, tried) = found else {
+        return None;
+    };
+    let region = Region { address, size };
+    if size == 0 {
+        return Some(Translated { region, tried });
     }
+    if 0xffff_ffff_ffff_ffff - address < size - 1 {
+        return None;
+    }
+    Some(Translated { region, tried })
 }
 
 // A region of the node at a place, through each of its ancestors below the root.

@@ -11,7 +11,5 @@ use numbers::Numbered;
 pub extern "C" fn bench_open(s: &[u8]) -> u8
     ensures { result ≡ opened_number (opened_of s.now) }
 {
-    let opened = fdt::open_tree(s);
-    let said = opened.number();
-    said
+    fdt::open_tree(s).number()
 }

@@ -44,13 +44,16 @@ pub struct Cursor {
     pub ranges: Block,
 }
 
-// A step gives a claim or none, and where to go on; or all is claimed.
+// A step gives a claim or none, and where to go on; or all is claimed. Three ways, so it is no Option.
 #[derive(Clone, Copy)]
 pub enum Step {
     Claims(Claim, Cursor),
     On(Cursor),
     End,
 }
+
+// The part of no bytes, where there is nothing to read.
+const NO_PART: Block = Block { at: 0, len: 0 };
 
 // At the start of a stage.
 fn start_at(stage: Stage) -> Cursor
@@ -59,14 +62,14 @@ fn start_at(stage: Stage) -> Cursor
     Cursor {
         stage,
         row: 0,
-        value: Block { at: 0, len: 0 },
+        value: NO_PART,
         next: None,
         own: Cells {
             address: CellCount::Absent,
             size: CellCount::Absent,
         },
         parent: CellCount::Absent,
-        ranges: Block { at: 0, len: 0 },
+        ranges: NO_PART,
     }
 }
 
@@ -77,10 +80,11 @@ pub fn first_claim() -> Cursor
     start_at(Stage::Entries)
 }
 
+// Where a value stands, or no part where there is none.
 fn part_by(value: Option<Block>) -> Block
     ensures { result ≡ part_by value }
 {
-    value.unwrap_or(Block { at: 0, len: 0 })
+    value.unwrap_or(NO_PART)
 }
 
 // /reserved-memory, where its children count.
@@ -116,6 +120,7 @@ fn parent_of<'a>(tree: Tree<'a>, way: Way) -> Option<usize>
     }
 }
 
+// What the root says of its children's addresses.
 fn root_cells<'a>(tree: Tree<'a>) -> CellCount
     ensures { result ≡ root_cells tree.entry.structure.now tree.entry.strings.now }
 {
@@ -130,9 +135,8 @@ fn ranges_of<'a>(tree: Tree<'a>, way: Way, node: usize) -> Block
     ensures { result ≡ ranges_by way (prop_at tree.entry.structure.now tree.entry.strings.now node ranges_name) }
 {
     match way {
-        Way::Reserve => Block { at: 0, len: 0 },
+        Way::Reserve | Way::Controllers => NO_PART,
         Way::Soc => part_by(nodes::getprop(tree, node, b"ranges")),
-        Way::Controllers => Block { at: 0, len: 0 },
     }
 }
 
@@ -146,7 +150,7 @@ fn enter<'a>(tree: Tree<'a>, way: Way) -> Cursor
     Cursor {
         stage: Stage::Children(way),
         row: 0,
-        value: Block { at: 0, len: 0 },
+        value: NO_PART,
         next: nodes::first_subnode(tree, node),
         own: nodes::cells_of(tree, node),
         parent: root_cells(tree),
@@ -154,39 +158,25 @@ fn enter<'a>(tree: Tree<'a>, way: Way) -> Cursor
     }
 }
 
+// The same cursor at another row.
 fn with_row(cursor: Cursor, row: usize) -> Cursor
     ensures { result ≡ with_row cursor row }
 {
-    let stage = cursor.stage;
-    let value = cursor.value;
-    let next = cursor.next;
-    let own = cursor.own;
-    let parent = cursor.parent;
-    let ranges = cursor.ranges;
-    Cursor {
-        stage,
-        row,
-        value,
-        next,
-        own,
-        parent,
-        ranges,
-    }
+    Cursor { row, ..cursor }
 }
 
-// An entry of the reservation block: size 0, or a sum of 2^64 or more, is passed over.
+// An entry of the reservation block: size 0, or a sum of 2^64 or more, is passed over. The sum itself is not used, so it is no `checked_add`.
 fn visit_fdt_memory_reservations<'a>(tree: Tree<'a>, block: &'a [u8], cursor: Cursor) -> Step
     ensures { result ≡ entry_step tree.entry.structure.now tree.entry.strings.now (entry_of block.now cursor.row) cursor }
 {
-    let row = cursor.row;
-    let Reservation::Entry(entry) = reservations::reserved_entry(block, row) else {
+    let Reservation::Entry(entry) = reservations::reserved_entry(block, cursor.row) else {
         return Step::On(enter(tree, Way::Reserve));
     };
-    let next = with_row(cursor, row + 1);
+    let next = with_row(cursor, cursor.row + 1);
     if entry.size == 0 {
         return Step::On(next); // size 0 alone does not end the block
     }
-    if 0xffff_ffff_ffff_ffff - entry.address < entry.size {
+    if u64::MAX - entry.address < entry.size {
         return Step::On(next);
     }
     Step::Claims(
@@ -219,21 +209,15 @@ fn after<'a>(tree: Tree<'a>, arm: bool, way: Way) -> Cursor
 fn next_child<'a>(tree: Tree<'a>, arm: bool, way: Way, cursor: Cursor) -> Cursor
     ensures { result ≡ child_next tree.entry.structure.now tree.entry.strings.now arm way cursor cursor.next }
 {
-    let next = cursor.next;
-    let Some(child) = next else {
+    let Some(child) = cursor.next else {
         return after(tree, arm, way);
     };
-    let own = cursor.own;
-    let parent = cursor.parent;
-    let ranges = cursor.ranges;
     Cursor {
         stage: Stage::Children(way),
         row: 0,
-        value: part_by(claims::child_value(tree, way, own, child)),
+        value: part_by(claims::child_value(tree, way, cursor.own, child)),
         next: nodes::next_subnode(tree, child),
-        own,
-        parent,
-        ranges,
+        ..cursor
     }
 }
 
@@ -241,9 +225,8 @@ fn next_child<'a>(tree: Tree<'a>, arm: bool, way: Way, cursor: Cursor) -> Cursor
 fn region_step(structure: &[u8], way: Way, cursor: Cursor, region: Region, next: Cursor) -> Step
     ensures { result ≡ yields (claim_by way (ranges_of cursor.own.address cursor.parent cursor.own.size (part_of structure.now cursor.ranges.at cursor.ranges.len)) region) next }
 {
-    let ranges = cursor.ranges;
     let bus = Bus {
-        ranges: words::part(structure, ranges.at, ranges.len),
+        ranges: words::part(structure, cursor.ranges.at, cursor.ranges.len),
         own: cursor.own,
         parent: cursor.parent,
     };
@@ -256,8 +239,7 @@ fn region_step(structure: &[u8], way: Way, cursor: Cursor, region: Region, next:
             },
             next,
         ),
-        Window::Nowhere => Step::On(next),
-        Window::Unreadable => Step::On(next),
+        Window::Nowhere | Window::Unreadable => Step::On(next),
     }
 }
 
@@ -265,16 +247,13 @@ fn region_step(structure: &[u8], way: Way, cursor: Cursor, region: Region, next:
 fn child_step<'a>(tree: Tree<'a>, arm: bool, way: Way, cursor: Cursor) -> Step
     ensures { result ≡ child_step tree.entry.structure.now tree.entry.strings.now arm way cursor }
 {
-    let value = cursor.value;
-    let row = cursor.row;
-    let entries = words::part(tree.structure, value.at, value.len);
-    match cells::reg_row(entries, cursor.own, row) {
+    let entries = words::part(tree.structure, cursor.value.at, cursor.value.len);
+    match cells::reg_row(entries, cursor.own, cursor.row) {
         RegRow::RegAt(region) => {
-            let next = with_row(cursor, row + 1);
+            let next = with_row(cursor, cursor.row + 1);
             region_step(tree.structure, way, cursor, region, next)
         }
-        RegRow::PastReg => Step::On(next_child(tree, arm, way, cursor)),
-        RegRow::NoReg => Step::On(next_child(tree, arm, way, cursor)),
+        RegRow::PastReg | RegRow::NoReg => Step::On(next_child(tree, arm, way, cursor)),
     }
 }
 
@@ -324,8 +303,7 @@ fn console_step<'a>(tree: Tree<'a>) -> Step
 pub fn next_claim<'a>(tree: Tree<'a>, block: &'a [u8], arm: bool, cursor: Cursor) -> Step
     ensures { result ≡ step_of tree.entry.structure.now tree.entry.strings.now block.now arm cursor }
 {
-    let stage = cursor.stage;
-    match stage {
+    match cursor.stage {
         Stage::Entries => visit_fdt_memory_reservations(tree, block, cursor),
         Stage::Children(way) => child_step(tree, arm, way, cursor),
         Stage::Virt => virt_step(cursor),

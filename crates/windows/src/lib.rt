@@ -16,7 +16,7 @@ pub struct Bus<'a> {
     pub parent: CellCount,
 }
 
-// Where an address leads: to another; nowhere; or the value cannot be read.
+// Where an address leads: to another; nowhere; or the value cannot be read. Three ways, each named by definitions, so it is no Result.
 #[derive(Clone, Copy)]
 pub enum Window {
     To(u64),
@@ -25,6 +25,7 @@ pub enum Window {
 }
 
 // What one range does with a region: it takes it to an address; it takes it, and the sum does not fit; or it does not have it.
+// Three ways, as in Window.
 #[derive(Clone, Copy)]
 enum Fit {
     Gives(u64),
@@ -33,38 +34,34 @@ enum Fit {
 }
 
 // How far past its first byte a region's last byte lies; a region of no bytes counts as one of one byte.
+#[tactic(auto, unfolding(crate::specs::Window::reach))]
 fn reach_of(size: u64) -> u64
     ensures { result ≡ reach size }
 {
-    if size == 0 {
-        return 0;
-    }
-    size - 1
+    size.saturating_sub(1)
 }
 
-// The parent's address that lies `offset` bytes into the range, where that and the region's last byte fit.
+// The parent's address that lies `offset` bytes into the range, where that and the region's last byte fit. Of the second sum only that it
+// fits is asked, so neither is a `checked_add`.
 fn land(parent: u64, offset: u64, last: u64) -> Fit
     ensures { result ≡ landing parent offset last }
 {
-    if 0xffff_ffff_ffff_ffff - parent < offset {
+    if u64::MAX - parent < offset {
         return Fit::Over;
     }
     let to = parent + offset;
-    if 0xffff_ffff_ffff_ffff - to < last {
+    if u64::MAX - to < last {
         return Fit::Over;
     }
     Fit::Gives(to)
 }
 
 // The address of a region's last byte, or the largest address where that lies past it.
+#[tactic(auto, unfolding(crate::specs::Window::last_byte))]
 fn last_of(region: Region) -> u64
     ensures { result ≡ last_byte region.address region.size }
 {
-    let far = reach_of(region.size);
-    if 0xffff_ffff_ffff_ffff - region.address < far {
-        return 0xffff_ffff_ffff_ffff;
-    }
-    region.address + far
+    region.address.saturating_add(reach_of(region.size))
 }
 
 // The soc window's rule.
@@ -102,7 +99,7 @@ fn fit_bus(range: Range, region: Region) -> Fit
     land(range.parent, offset, 0)
 }
 
-// By the one rule or the other.
+// By the one rule or the other: `soc` is the definition's own argument.
 fn fit_by(soc: bool, range: Range, region: Region) -> Fit
     ensures { result ≡ fit_by soc range region.address region.size }
 {
@@ -117,6 +114,7 @@ fn through<'a>(soc: bool, bus: Bus<'a>, region: Region) -> Window
     ensures { result ≡ window soc (ranges_of bus.entry.own.address bus.entry.parent bus.entry.own.size bus.entry.ranges.now) region.address region.size }
 {
     let mut i: usize = 0;
+    // A `loop`: how many rows there are is told by range_row alone.
     loop {
         match cells::range_row(bus.ranges, bus.own, bus.parent, i) {
             RangeRow::NoRange => {

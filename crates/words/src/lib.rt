@@ -41,8 +41,8 @@ pub fn be64(s: &[u8], at: usize) -> u64
     high * 0x1_0000_0000 + low
 }
 
-// The little-endian number in the two bytes at a place. It, le32 and le64 are no one function over the width: each has a definition of its own,
-// by which contracts above speak of it.
+// The little-endian number in the two bytes at a place. It, le32 and le64 are no one function over the width, nor are be32 and be64: each has a
+// definition of its own, by which contracts above speak of it.
 pub fn le16(s: &[u8], at: usize) -> usize
     ensures { Half s.now at result }
 {

@@ -1,4 +1,5 @@
 use mathlib.Core.Path.{sym, ◌∙◌, subst}
+use mathlib.Core.Logic.{⊎_elim}
 use native.Mathlib.Omega.{arith}
 use Rattle.nodes.specs.Nav.{KidIs}
 use Rattle.nodes.proofs.FindLaws.{find_here, find_next, nearer, find_end, find_stuck}
@@ -27,8 +28,8 @@ loop-q-preserved c =
 
 pub returns-in-End : goal.returns-in-End
 returns-in-End c =
-    c.loop-q.invariant ∙ find_end _ _ _ _ _ (subst (KidIs _ _ _) c.in-End.is c.next_kid.ensures)
-
-pub returns-in-Stuck : goal.returns-in-Stuck
-returns-in-Stuck c =
-    c.loop-q.invariant ∙ find_stuck _ _ _ _ (subst (KidIs _ _ _) c.in-Stuck.is c.next_kid.ensures)
+    c.loop-q.invariant ∙
+    ⊎_elim
+    (λ e. find_end _ _ _ _ _ (subst (KidIs _ _ _) e.1 c.next_kid.ensures))
+    (λ e. find_stuck _ _ _ _ (subst (KidIs _ _ _) e c.next_kid.ensures))
+    c.in-End.is

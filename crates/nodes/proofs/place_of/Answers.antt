@@ -1,4 +1,5 @@
 use mathlib.Core.Path.{refl}
+use mathlib.Core.Logic.{⊎_elim}
 use native.Mathlib.Nat.{le_refl}
 use native.Mathlib.Omega.{arith}
 use Rattle.nodes.proofs.TokenLaws.{falls}
@@ -39,7 +40,4 @@ pub loop-next-preserved : goal.loop-next-preserved
 loop-next-preserved c = count_step _ _ _ _ _ c.loop-next.invariant c.token_at.ensures c.in-EndNode.is
 
 pub returns-in-Fin : goal.returns-in-Fin
-returns-in-Fin c = count_step _ _ _ _ _ c.loop-next.invariant c.token_at.ensures c.in-Fin.is
-
-pub returns-in-Bad : goal.returns-in-Bad
-returns-in-Bad c = count_step _ _ _ _ _ c.loop-next.invariant c.token_at.ensures c.in-Bad.is
+returns-in-Fin c = ⊎_elim (λ e. count_step _ _ _ _ _ c.loop-next.invariant c.token_at.ensures e) (λ e. count_step _ _ _ _ _ c.loop-next.invariant c.token_at.ensures e) c.in-Fin.is

@@ -1,4 +1,5 @@
 use mathlib.Core.Path.{sym, ◌∙◌}
+use mathlib.Core.Logic.{⊎_elim}
 use native.Mathlib.Omega.{arith}
 use Rattle.nodes.proofs.TokenLaws.{reach, falls}
 use Rattle.nodes.proofs.NavLaws.{look_step, look_hit, look_miss}
@@ -35,13 +36,7 @@ loop-next-preserved c =
     look_miss _ _ _ _ _ _ _ _ _ c.token_at.ensures c.in-Prop.is _ c.part.ensures (sym c.same.ensures ∙ c.if-same.false)
 
 pub returns-in-Begin : goal.returns-in-Begin
-returns-in-Begin c = sym (c.loop-next.invariant ∙ look_step _ _ _ _ c.token_at.ensures c.in-Begin.is)
-
-pub returns-in-EndNode : goal.returns-in-EndNode
-returns-in-EndNode c = sym (c.loop-next.invariant ∙ look_step _ _ _ _ c.token_at.ensures c.in-EndNode.is)
-
-pub returns-in-Fin : goal.returns-in-Fin
-returns-in-Fin c = sym (c.loop-next.invariant ∙ look_step _ _ _ _ c.token_at.ensures c.in-Fin.is)
-
-pub returns-in-Bad : goal.returns-in-Bad
-returns-in-Bad c = sym (c.loop-next.invariant ∙ look_step _ _ _ _ c.token_at.ensures c.in-Bad.is)
+returns-in-Begin c =
+    sym
+    (c.loop-next.invariant ∙
+    ⊎_elim (λ e. look_step _ _ _ _ c.token_at.ensures e.2) (⊎_elim (λ e. look_step _ _ _ _ c.token_at.ensures e.1) (⊎_elim (λ e. look_step _ _ _ _ c.token_at.ensures e) (λ e. look_step _ _ _ _ c.token_at.ensures e))) c.in-Begin.is)

@@ -1,23 +1,22 @@
+use mathlib.Core.Path.{refl, ◌∙◌}
 use native.Mathlib.Omega.{arith}
-use Rattle.translation.proofs.StepLaws.{children, is_target, is_other, none_left, goes_on, less, again}
+use Rattle.translation.proofs.StepLaws.{children, is_target, is_other, none_left, goes_on, stays, less, again}
 use Rattle.translation.proofs.+translate_from_children_translate_from_subtree.Goals as goal
 
 pub translate_from_children-returns : goal.translate_from_children-returns
 translate_from_children-returns t c = none_left c.loop-child.invariant c.in_default.is
 
-pub translate_from_children-returns-in-Gone : goal.translate_from_children-returns-in-Gone
-translate_from_children-returns-in-Gone t c = goes_on c.loop-child.invariant _ c.in-Some.is _ c.translate_from_subtree.ensures _ c.in-Gone.is
-
-pub translate_from_children-returns-in-Lost : goal.translate_from_children-returns-in-Lost
-translate_from_children-returns-in-Lost t c = goes_on c.loop-child.invariant _ c.in-Some.is _ c.translate_from_subtree.ensures _ c.in-Lost.is
+pub translate_from_children-returns-in_default-found : goal.translate_from_children-returns-in_default-found
+translate_from_children-returns-in_default-found t c =
+    stays _ _ c.in_default-found.not-On ∙ goes_on c.loop-child.invariant _ c.in-Some.is _ c.translate_from_subtree-found.ensures _ refl
 
 pub translate_from_children-loop-child-smaller : goal.translate_from_children-loop-child-smaller
 translate_from_children-loop-child-smaller t c =
-    less c.loop-child.invariant _ c.in-Some.is _ c.translate_from_subtree.ensures _ c.in-On.is _ c.next_subnode-child.ensures
+    less c.loop-child.invariant _ c.in-Some.is _ c.translate_from_subtree-found.ensures _ c.in-On.is _ c.next_subnode-child.ensures
 
 pub translate_from_children-loop-child-preserved : goal.translate_from_children-loop-child-preserved
 translate_from_children-loop-child-preserved t c =
-    again c.loop-child.invariant _ c.in-Some.is _ c.translate_from_subtree.ensures _ c.in-On.is _ c.next_subnode-child.ensures
+    again c.loop-child.invariant _ c.in-Some.is _ c.translate_from_subtree-found.ensures _ c.in-On.is _ c.next_subnode-child.ensures
 
 pub translate_from_subtree-returns-then-node-target : goal.translate_from_subtree-returns-then-node-target
 translate_from_subtree-returns-then-node-target t c = is_target _ _ _ _ _ _ _ _ _ c.if-node-target.true c.begin_at.ensures

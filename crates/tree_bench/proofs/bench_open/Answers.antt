@@ -4,4 +4,4 @@ use Rattle.fdt.specs.Opening.{opened_number}
 use Rattle.tree_bench.proofs.bench_open.Goals as goal
 
 pub returns : goal.returns
-returns c = c.number-said.ensures ∙ ap opened_number c.open_tree-opened.ensures
+returns c = c.number.ensures ∙ ap opened_number c.open_tree.ensures

@@ -9,8 +9,8 @@ use Rattle.visit.proofs.visit_fdt_memory_reservations.Goals as goal
 pub returns-in_default : goal.returns-in_default
 returns-in_default c = rw c.enter.ensures (entry_none _ _ _ _ _ _ c.reserved_entry.ensures c.in_default.not-Entry)
 
-pub overflow_add-row : goal.overflow_add-row
-overflow_add-row c = omega (arith, entry_inside _ _ _ (sym c.reserved_entry.ensures ∙ c.in-Entry.is))
+pub overflow_add-cursor : goal.overflow_add-cursor
+overflow_add-cursor c = omega (arith, entry_inside _ _ _ (sym c.reserved_entry.ensures ∙ c.in-Entry.is))
 
 pub returns-then-entry-eq0 : goal.returns-then-entry-eq0
 returns-then-entry-eq0 c =
