@@ -107,7 +107,7 @@ impl MemoryMap {
         let Some(_) = entry::kind_of(claim.kind) else {
             return Err(MapRefusal::UnknownKind);
         };
-        if claim.kind == 0 {
+        if claim.kind == BootloaderMemoryKind::Null.number() {
             return Ok(());
         }
         if claim.size == 0 {
