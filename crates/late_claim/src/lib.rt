@@ -7,7 +7,7 @@ ghost use Rattle.memory.specs.Run.{is_done};
 ghost use Rattle.memory.specs.Made.{Made};
 ghost use Rattle.late_claim.specs.Late.{late_refusal_number, judged, enter_of, late_of, after, after_in, Enters};
 
-use entry::Claim;
+use entry::{BootloaderMemoryKind, Claim};
 use memory::{MapRefusal, MemoryMap};
 use numbers::Numbered;
 
@@ -45,7 +45,7 @@ pub fn judge(kind: u64, slots: &[u64], count: usize) -> Result<(), LateRefusal>
     let Some(_) = entry::kind_of(kind) else {
         return Err(LateRefusal::UnknownKind);
     };
-    if kind <= 1 {
+    if kind <= BootloaderMemoryKind::Free.number() {
         return Err(LateRefusal::NotLate);
     }
     if !lent_table::good_table(slots, count) {
