@@ -17,8 +17,7 @@ pub extern "C" fn bench_list(list: &[u8]) -> usize
     ensures { result ≡ (listed 4096 blank list.now).map.size }
 {
     let r = bootloader::register_bootloader_areas(MemoryMap::empty(), list);
-    let map = r.map;
-    map.size
+    r.map.size
 }
 
 // Registers one page by value, and answers how many entries are held then.
@@ -37,8 +36,7 @@ pub extern "C" fn bench_register(
         size,
     };
     let r = map.register(base, 4096, kind);
-    let next = r.map;
-    next.size
+    r.map.size
 }
 
 // Builds the areas of a map without limits, and answers how many they are, or 0 where they do not fit.

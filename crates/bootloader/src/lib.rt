@@ -10,7 +10,7 @@ ghost use Rattle.bootloader.specs.List.{claim_at, all_known, claims, listed};
 use entry::Claim;
 use memory::{MapRefusal, MemoryMap, Registered};
 
-// Entry i of a list.
+// Entry i of a list, by its index: so the definitions and their promise go through a list.
 pub fn claim_at(list: &[u8], i: usize) -> Claim
     requires { i < length list.now / 24 }
     ensures { result ≡ claim_at list.now i }
@@ -59,14 +59,12 @@ pub fn register_bootloader_areas(map: MemoryMap, list: &[u8]) -> Registered
         };
     }
     let mut next = map;
-    match register_list_in(&mut next, list) {
-        Ok(()) => Registered {
-            map: next,
-            answer: Ok(()),
-        },
-        Err(refusal) => Registered {
+    let answer = register_list_in(&mut next, list);
+    match answer {
+        Ok(()) => Registered { map: next, answer },
+        Err(_) => Registered {
             map, // as it came
-            answer: Err(refusal),
+            answer,
         },
     }
 }

@@ -66,9 +66,8 @@ impl MemoryEntry {
     {
         let start = self.start.max(other.start);
         let end = self.end.min(other.end);
-        let kind = self.kind;
         if start < end {
-            return Some(MemoryEntry { start, end, kind });
+            return Some(MemoryEntry { start, end, kind: self.kind });
         }
         None
     }
@@ -85,8 +84,7 @@ impl MemoryEntry {
         }
         let start = self.start.min(other.start);
         let end = self.end.max(other.end);
-        let kind = self.kind;
-        Some(MemoryEntry { start, end, kind })
+        Some(MemoryEntry { start, end, kind: self.kind })
     }
 }
 

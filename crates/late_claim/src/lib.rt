@@ -7,7 +7,7 @@ ghost use Rattle.memory.specs.Run.{is_done};
 ghost use Rattle.memory.specs.Made.{Made};
 ghost use Rattle.late_claim.specs.Late.{late_refusal_number, judged, enter_of, late_of, after, after_in, Enters};
 
-use entry::Claim;
+use entry::{BootloaderMemoryKind, Claim};
 use memory::{MapRefusal, MemoryMap};
 use numbers::Numbered;
 
@@ -29,8 +29,8 @@ impl Numbered for LateRefusal {
     }
 }
 
-// The map, and how many areas the table has, after a late claim. A refusal hands back the map as it came, so this is no Result. The map
-// stands first so that its copies stay aligned.
+// The map, and how many areas the table has, after a late claim. A refusal hands back the map as it came, so this is no Result, and the count
+// stands beside the answer, so that a caller reads it after a refusal too. The map stands first so that its copies stay aligned.
 #[derive(Clone, Copy)]
 pub struct Late {
     pub map: MemoryMap,
@@ -38,14 +38,15 @@ pub struct Late {
     pub answer: Result<(), LateRefusal>,
 }
 
-// What is refused before the claim is looked at: its kind, and the table.
+// What is refused before the claim is looked at: its kind, and the table. Null and Free are the two least numbers, so one test asks both. The
+// table is slots and a count, since C lends it so.
 pub fn judge(kind: u64, slots: &[u64], count: usize) -> Result<(), LateRefusal>
     ensures { result ≡ judged 4096 kind count slots.now }
 {
     let Some(_) = entry::kind_of(kind) else {
         return Err(LateRefusal::UnknownKind);
     };
-    if kind <= 1 {
+    if kind <= BootloaderMemoryKind::Free.number() {
         return Err(LateRefusal::NotLate);
     }
     if !lent_table::good_table(slots, count) {
@@ -106,7 +107,8 @@ pub fn claim_late_in(
     enter_in(map, claim, slots, count)
 }
 
-// A late claim on a map by value. A refusal gives back the map and leaves every number of the slots.
+// A late claim on a map by value. A refusal gives back the map and leaves every number of the slots. Base, size and kind are three parameters,
+// as C calls it. Each arm writes the count and the answer, since a refusal has no count of its own.
 pub fn claim_late(
     mut map: MemoryMap,
     base: u64,

@@ -20,7 +20,7 @@ pub struct LateRun {
     pub answer: Result<(), LateRefusal>,
 }
 
-// The same where the map is lent.
+// The same where the map is lent. No part of LateRun, since the definitions read each one's own fields.
 #[derive(Clone, Copy)]
 pub struct LateRunIn {
     pub count: usize,
@@ -28,7 +28,8 @@ pub struct LateRunIn {
     pub answer: Result<(), LateRefusal>,
 }
 
-// The claims of a list, 24 bytes each, on a map that is lent, and on a table of which `count` slots are used.
+// The claims of a list, 24 bytes each, on a map that is lent, and on a table of which `count` slots are used. By index, since a refusal tells
+// the index of its claim.
 pub fn claim_all_in(map: &mut MemoryMap, slots: &mut [u64], count: usize, list: &[u8]) -> LateRunIn
     requires { Made 4096 map.old }
     ensures { ran_in result map.new slots.new ≡ late_all 4096 map.old count slots.old 0 (claims list.now) }

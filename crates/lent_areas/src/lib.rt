@@ -26,7 +26,8 @@ fn area_of(slots: &[u64; 1024], i: usize) -> MemoryArea
     }
 }
 
-// The finished areas of a map into the lent row; the rest of the row stays, and where they are too many all of it does.
+// The finished areas of a map into the lent row; the rest of the row stays, and where they are too many all of it does. Low and high are the
+// Rust's two parameters.
 pub fn build(
     row: &mut [MemoryArea],
     map: MemoryMap,

@@ -9,7 +9,8 @@ ghost use Rattle.memory.specs.Made.{Made};
 use entry::Claim;
 use memory::{MapRefusal, MemoryMap, Registered};
 
-// Registers a range in a lent map by the number of its kind. A refusal leaves the map as it was.
+// Registers a range in a lent map by the number of its kind. A refusal leaves the map as it was. Base, size and kind are the Rust's three
+// parameters.
 pub fn register(map: &mut MemoryMap, base: u64, size: u64, kind: u64) -> Result<(), MapRefusal>
     requires { Made 4096 map.old }
     ensures { (result ≡ (registered 4096 map.old (claim base size kind)).answer) × (map.new ≡ (registered 4096 map.old (claim base size kind)).map) }

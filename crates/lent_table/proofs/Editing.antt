@@ -22,7 +22,7 @@ use Rattle.lent_table.proofs.TableLaws.{table_length, table_flat, flat_append, g
 use Rattle.lent_table.proofs.SlotLaws.{set_size}
 use Rattle.lent_table.proofs.Trimming.{lead_le, above_length}
 use Rattle.lent_table.proofs.CutLaws.{here_nil, here_after, here_inside, here_left, here_two, cut_short, cut_less}
-use Rattle.lent_table.proofs.Finding.{Takes, takes_is, found, First, first}
+use Rattle.lent_table.proofs.Finding.{Takes, takes_is, takes_none, found, First, first}
 
 -- ── edit ──
 module _ (l : List ℕ) (n : ℕ) where
@@ -226,6 +226,13 @@ module _ {c : Interval} {l : List ℕ} {n : ℕ} (takes : Takes c n l) where
           let b = leb-false _ _ (sym e) in
           let many : length (cut_from c (table_in n l)) ≡ n + 1 = ap length (cut_two takes past lt h b f) ∙ two_length takes past lt h b f in
           sym (crowds_is ∙ ap not (lt-leb (length (cut_from c (table_in n l))) (slots_in l) (omega arith)))
+
+-- fewer areas than slots, or slots that are not there
+pub crowded_not_full : (c : Interval) (n : ℕ) (l : List ℕ) → c.lo < c.hi → (n ≡ length l / 2 → ⊥) → false ≡ crowds c n l
+crowded_not_full c n l some h =
+    ⊎_elim (λ (b : n ≤ length l / 2). crowded_room {c = c} {l = l} {n = n} (record { some = some; room = b }) (omega arith))
+    (λ (b : length l / 2 < n). crowds_not c n l (takes_none c n l b))
+    (le_or_lt n (length l / 2))
 
 -- ── A table that can be one ──
 -- of it a range that is not empty leaves "its areas", less the range

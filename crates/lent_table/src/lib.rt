@@ -1,8 +1,8 @@
 // The finished table where a caller lends it, as numbers: whether it can be one, and taking a range away from its areas in place. Nothing
 // here knows of a map or of a claim.
 //
-// Slot k is the numbers at places k + k and k + k + 1, an area's base and its size, and the first n slots are in use. No base and size are
-// added before it is known that the sum fits.
+// Slot k is the numbers at places k + k and k + k + 1, an area's base and its size, and the first n slots are in use: numbers and a count,
+// since C lends them so. No base and size are added before it is known that the sum fits.
 #![tactic(auto)]
 
 ghost use Rattle.std.specs.Prelude.{◌≡◌, ◌+◌, ◌≤◌, ◌<◌, leb, length};
@@ -17,6 +17,7 @@ use areas::Interval;
 const TOP: u64 = 0xffff_ffff_ffff_f000;
 
 // Whether this is an area of a table, where the areas before it let the next start at `least`: nonempty, of whole pages, and up to T at most.
+// One test a line, since the last ones subtract and add what those before them allow.
 fn good_area(least: u64, base: u64, size: u64) -> bool
     ensures { result ≡ good_area 4096 least (interval base (base + size)) }
 {
@@ -68,7 +69,8 @@ fn ends_by(base: u64, size: u64, x: u64) -> bool
     size <= x - base
 }
 
-// The first slot from `from` on whose area ends past x, or n where each ends at x or below.
+// The first slot from `from` on whose area ends past x, or n where each ends at x or below. Slot by slot, since it answers for any numbers,
+// and not only for areas that ascend.
 fn past(slots: &[u64], from: usize, n: usize, x: u64) -> usize
     requires { (from ≤ n) × (n + n ≤ length slots.now) }
     ensures { Past slots.now from n x result }
@@ -199,10 +201,7 @@ pub fn crowded(slots: &[u64], n: usize, range: Interval) -> bool
     if range.hi <= range.lo {
         return false;
     }
-    if n > slots.len() / 2 {
-        return false;
-    }
-    if n < slots.len() / 2 {
+    if n != slots.len() / 2 {
         return false;
     }
     let i = past(slots, 0, n, range.lo);

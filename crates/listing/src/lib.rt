@@ -10,7 +10,7 @@ ghost use Rattle.listing.specs.Listing.{wants_kind, picked, first_of};
 use entry::{BootloaderMemoryKind, MemoryEntry};
 use memory::MemoryMap;
 
-// Whether an entry's kind is the one asked for, or, where that one is not wanted, any other.
+// Whether an entry's kind is the one asked for, or, where that one is not wanted, any other. `wanted` is a bool as in the definition.
 fn is_wanted(kind: u64, wanted: bool, held: u64) -> bool
     ensures { result ≡ wants_kind kind wanted held }
 {
@@ -36,37 +36,37 @@ pub fn free(map: MemoryMap) -> MemoryMap
     requires { Made 4096 map }
     ensures { result ≡ picked (number_of BootloaderMemoryKind.Free) true map }
 {
-    pick(map, 1, true)
+    pick(map, BootloaderMemoryKind::Free.number(), true)
 }
 
 pub fn non_free(map: MemoryMap) -> MemoryMap
     requires { Made 4096 map }
     ensures { result ≡ picked (number_of BootloaderMemoryKind.Free) false map }
 {
-    pick(map, 1, false)
+    pick(map, BootloaderMemoryKind::Free.number(), false)
 }
 
 pub fn devices(map: MemoryMap) -> MemoryMap
     requires { Made 4096 map }
     ensures { result ≡ picked (number_of BootloaderMemoryKind.Device) true map }
 {
-    pick(map, 0x101, true)
+    pick(map, BootloaderMemoryKind::Device.number(), true)
 }
 
 pub fn identity_mapped(map: MemoryMap) -> MemoryMap
     requires { Made 4096 map }
     ensures { result ≡ picked (number_of BootloaderMemoryKind.IdentityMap) true map }
 {
-    pick(map, 0x102, true)
+    pick(map, BootloaderMemoryKind::IdentityMap.number(), true)
 }
 
-// The first held entry of kind Kernel.
+// The first held entry of kind Kernel. With `find` in place of the loop, tried, the proof did not close.
 pub fn kernel(map: MemoryMap) -> Option<MemoryEntry>
     requires { Made 4096 map }
     ensures { result ≡ first_of (number_of BootloaderMemoryKind.Kernel) map }
 {
     for entry in &map.entries[..map.size] {
-        if entry.kind == 0x100 {
+        if entry.kind == BootloaderMemoryKind::Kernel.number() {
             return Some(*entry);
         }
     }

@@ -36,7 +36,7 @@ impl Numbered for MapRefusal {
 }
 
 // A map by value after a registration. A refusal hands back the map as it came, so this is no Result. The map stands before the answer so
-// that its copies stay aligned.
+// that its copies stay aligned. A source with refusals of its own has a struct of its own: the definitions name each.
 #[derive(Clone, Copy)]
 pub struct Registered {
     pub map: MemoryMap,
@@ -104,10 +104,11 @@ impl MemoryMap {
         requires { Made 4096 self.old }
         ensures { answered self.new result ≡ registered 4096 self.old claim }
     {
+        // One rule a line. Null is asked by its number: with one match on what the number says, tried, the proof of the last arm did not close.
         let Some(_) = entry::kind_of(claim.kind) else {
             return Err(MapRefusal::UnknownKind);
         };
-        if claim.kind == 0 {
+        if claim.kind == BootloaderMemoryKind::Null.number() {
             return Ok(());
         }
         if claim.size == 0 {
@@ -132,7 +133,7 @@ impl MemoryMap {
         Ok(())
     }
 
-    // Registers a range by the number of its kind.
+    // Registers a range by the number of its kind. Here and below, base, size and kind are the Rust's three parameters.
     pub fn register(mut self, base: u64, size: u64, kind: u64) -> Registered
         requires { Made 4096 self }
         ensures { result ≡ registered 4096 self (claim base size kind) }

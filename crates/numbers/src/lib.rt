@@ -4,7 +4,8 @@
 ghost use Rattle.std.specs.Prelude.{◌≡◌, ℕ};
 ghost use Rattle.numbers.specs.Number.{number_by};
 
-// What has a number that a caller gets back. Each enum of refusals says by `number_of` which case has which.
+// What has a number that a caller gets back. Each enum of refusals says by `number_of` which case has which, in an impl of its own: a macro
+// writes no clause.
 pub trait Numbered {
     ghost number_of: { Self → ℕ };
 

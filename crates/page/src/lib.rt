@@ -14,7 +14,8 @@ pub fn align_down(x: u64) -> u64
     x / PAGE_SIZE * PAGE_SIZE
 }
 
-// Where a range ends: base + size, or the largest address where that does not fit.
+// Where a range ends: base + size, or the largest address where that does not fit. A promise has this name, so it stands beside the
+// library's.
 #[tactic(auto, unfolding(crate::specs::Round::ending))]
 pub fn saturating_add(base: u64, size: u64) -> u64
     ensures { result ≡ ending base size }

@@ -6,13 +6,11 @@ ghost use Rattle.memory.specs.Made.{Made};
 ghost use Rattle.sheet.specs.Share.{counted, share_of, bits_of};
 ghost use Rattle.sheet.specs.Sheet.{free_pages, slot_pages, slots_to, sheet_of};
 
+use entry::BootloaderMemoryKind;
 use memory::MemoryMap;
 use page::PAGE_SIZE;
 
-// The number of the kind Free.
-const FREE: u64 = 1;
-
-// For the web service. The share is usable over Free, and none where no page is Free.
+// How many pages are Free and how many usable, and the share usable over Free: none where no page is Free.
 #[derive(Clone, Copy)]
 pub struct PageSheet {
     pub free: u64,
@@ -59,7 +57,7 @@ pub fn page_sheet(free: u64, usable: u64) -> PageSheet
     }
 }
 
-// The Free pages of a map inside the limits.
+// The Free pages of a map inside the limits, which are the Rust's two parameters.
 pub fn free_pages(map: MemoryMap, low: Option<u64>, high: Option<u64>) -> u64
     requires { Made 4096 map }
     ensures { result ≡ free_pages 4096 low high map }
@@ -67,7 +65,7 @@ pub fn free_pages(map: MemoryMap, low: Option<u64>, high: Option<u64>) -> u64
     let limits = areas::limits(low, high);
     let mut pages: u64 = 0;
     for held in &map.entries[..map.size] {
-        if held.kind == FREE {
+        if held.kind == BootloaderMemoryKind::Free.number() {
             if let Some(part) = held.intersect(limits) {
                 pages += (part.end - part.start) / PAGE_SIZE;
             }
@@ -76,7 +74,7 @@ pub fn free_pages(map: MemoryMap, low: Option<u64>, high: Option<u64>) -> u64
     pages
 }
 
-// The pages of the first n areas of a table, capped at 2^64 - 1: a table of a map never comes near.
+// The pages of the first n areas of a table, lent as `lent_table` says, capped at 2^64 - 1: a table of a map never comes near.
 pub fn usable_pages(slots: &[u64], n: usize) -> u64
     ensures { result ≡ slot_pages 4096 slots.now (slots_to slots.now n) 0 }
 {

@@ -1,9 +1,6 @@
 -- `register_bootloader_areas` judges all kinds, registers on a copy, and hands back the caller's map where that is refused.
-use mathlib.Core.Path.{◌≡◌, ap, sym, ◌∙◌}
-use mathlib.Core.Bool.{true}
-use Rattle.memory.specs.Map.{answered}
+use mathlib.Core.Path.{ap, sym, ◌∙◌}
 use Rattle.memory.specs.Run.{is_done}
-use Rattle.bootloader.specs.List.{all_known}
 use Rattle.bootloader.proofs.ListLaws.{listed_unknown, listed_known}
 use Rattle.memory.proofs.RunLaws.{settled_done, settled_refused}
 use Rattle.bootloader.proofs.register_bootloader_areas.Goals as goal
@@ -15,10 +12,10 @@ pub returns-in-Ok : goal.returns-in-Ok
 returns-in-Ok c =
     let known = sym c.all_known.ensures ∙ c.if-not-all_known.false in
     let done = c.in-Ok.is in
-    rw (listed_known 4096 _ _ known, ← c.register_list_in.ensures) (rw (← done) (sym (settled_done c.args.map _ (ap is_done done))))
+    rw (listed_known 4096 _ _ known, ← c.register_list_in-answer.ensures) (sym (settled_done c.args.map _ (ap is_done done)))
 
 pub returns-in-Err : goal.returns-in-Err
 returns-in-Err c =
     let known = sym c.all_known.ensures ∙ c.if-not-all_known.false in
     let no = c.in-Err.is in
-    rw (listed_known 4096 _ _ known, ← c.register_list_in.ensures) (rw (← no) (sym (settled_refused c.args.map _ (ap is_done no))))
+    rw (listed_known 4096 _ _ known, ← c.register_list_in-answer.ensures) (sym (settled_refused c.args.map _ (ap is_done no)))

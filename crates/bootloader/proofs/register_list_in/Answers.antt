@@ -1,11 +1,9 @@
-use mathlib.Core.Path.{◌≡◌, ap, sym, ◌∙◌}
-use native.Mathlib.Omega.{arith}
+use mathlib.Core.Path.{ap, sym, ◌∙◌}
 use Rattle.numbers.proofs.Passed.{passed}
 use Rattle.page.proofs.Laws.{page}
 use Rattle.memory.specs.declared.Registered.{Registered}
 use Rattle.memory.specs.Map.{answered, registered}
 use Rattle.memory.specs.Run.{is_done}
-use Rattle.bootloader.specs.List.{claim_at}
 use Rattle.bootloader.proofs.ListLaws.{all_done, all_step, all_stop}
 use Rattle.memory.proofs.MapLaws.{one_made}
 use Rattle.bootloader.proofs.register_list_in.Goals as goal

@@ -3,7 +3,7 @@ use native.Mathlib.Nat.{le_of_lt}
 use native.Mathlib.Omega.{arith}
 use Rattle.sheet.proofs.Counting.{meet_some, pages_few, begins, passes, misses, adds, counted_all}
 use Rattle.sheet.proofs.free_pages.Goals as goal
-use Rattle.sheet.proofs.free_pages.Goals.{then-held-eq-FREE+in-Some, then-held-eq-FREE+in_default, else-held-eq-FREE}
+use Rattle.sheet.proofs.free_pages.Goals.{then-held-number+in-Some, then-held-number+in_default, else-held-number}
 
 pub loop-held-init : goal.loop-held-init
 loop-held-init c = begins _ _ _
@@ -15,10 +15,10 @@ pub loop-held-preserved : goal.loop-held-preserved
 loop-held-preserved c =
     let inv = c.loop-held.invariant in
     let lt = c.loop-held-test.true in
-    elim c.if-held-eq-FREE.branch [
-      | then-held-eq-FREE+in-Some w ↦ adds inv lt w.if-held-eq-FREE.true w.in-Some.part (sym w.in-Some.is ∙ w.intersect.ensures) (pages_few 4096 (omega arith) _ _ (omega arith)) w.pages-is
-      | then-held-eq-FREE+in_default w ↦ misses inv lt w.if-held-eq-FREE.true (sym w.in_default.is ∙ w.intersect.ensures) w.pages-is
-      | else-held-eq-FREE w ↦ passes inv lt w.if-held-eq-FREE.false w.pages-is
+    elim c.if-held-number.branch [
+      | then-held-number+in-Some w ↦ adds inv lt (rw c.number.ensures at w.if-held-number.true) w.in-Some.part (sym w.in-Some.is ∙ w.intersect.ensures) (pages_few 4096 (omega arith) _ _ (omega arith)) w.pages-is
+      | then-held-number+in_default w ↦ misses inv lt (rw c.number.ensures at w.if-held-number.true) (sym w.in_default.is ∙ w.intersect.ensures) w.pages-is
+      | else-held-number w ↦ passes inv lt (rw c.number.ensures at w.if-held-number.false) w.pages-is
     ]
 
 pub returns : goal.returns

@@ -7,11 +7,11 @@ use Rattle.memory.proofs.MemoryMap.register_in.Goals as goal
 pub returns-in_default : goal.returns-in_default
 returns-in_default c = unknown_registered 4096 _ _ (sym c.in_default.is ∙ c.kind_of.ensures)
 
-pub returns-then-claim-eq0 : goal.returns-then-claim-eq0
-returns-then-claim-eq0 c = null_registered 4096 _ _ _ (sym c.in-Some.is ∙ c.kind_of.ensures) (omega arith)
+pub returns-then-claim-number : goal.returns-then-claim-number
+returns-then-claim-number c = null_registered 4096 _ _ _ (sym c.in-Some.is ∙ c.kind_of.ensures) (omega arith)
 
-pub returns-then-claim-eq0-2 : goal.returns-then-claim-eq0-2
-returns-then-claim-eq0-2 c = none_registered 4096 _ _ _ (sym c.in-Some.is ∙ c.kind_of.ensures) (λ z. omega arith) (omega arith)
+pub returns-then-claim-eq0 : goal.returns-then-claim-eq0
+returns-then-claim-eq0 c = none_registered 4096 _ _ _ (sym c.in-Some.is ∙ c.kind_of.ensures) (λ z. omega arith) (omega arith)
 
 pub returns-then-pages : goal.returns-then-pages
 returns-then-pages c =
