@@ -42,10 +42,7 @@ impl Numbered for OrderFault {
 fn limit_good(s: &[u8], flagged: bool, at: usize) -> bool
     ensures { result ≡ (flagged || eqb (eight s.now at) 0) }
 {
-    if flagged {
-        return true;
-    }
-    words::le64(s, at) == 0
+    flagged || words::le64(s, at) == 0
 }
 
 // Whether the bytes keep the layout.
@@ -90,10 +87,7 @@ fn good_order(s: &[u8]) -> bool
 fn limit_by(s: &[u8], flagged: bool, at: usize) -> Option<u64>
     ensures { result ≡ limit_by flagged (eight s.now at) }
 {
-    if flagged {
-        return Some(words::le64(s, at));
-    }
-    None
+    flagged.then_some(words::le64(s, at))
 }
 
 // One of the five pairs.

@@ -10,13 +10,7 @@ ghost use Rattle.pen.specs.Writing.{HasRoom, Put};
 fn has_room(len: usize, at: usize, n: usize) -> bool
     ensures { HasRoom at n len result }
 {
-    if len < at {
-        return false;
-    }
-    if len - at < n {
-        return false;
-    }
-    true
+    at <= len && n <= len - at
 }
 
 // Puts some bytes at a place of the buffer, and answers the place behind them.
