@@ -1,5 +1,5 @@
 // Numbers as text, put into a lent buffer: decimal digits, 16 hex digits, and a word with a number behind it. What has no room from its
-// place on is not put at all, so that no function here asks anything of its caller.
+// place on is not put at all, so that no function here asks anything of its caller. A place is a number, as in pen.
 #![tactic(auto)]
 
 ghost use Rattle.figures.specs.Figures.{decimal_text, hex_text, Labelled};

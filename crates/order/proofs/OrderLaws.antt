@@ -4,7 +4,7 @@ use Rattle.order.specs.declared.OrderFault.TheVariants.{BadOrder}
 use Rattle.order.specs.declared.OrderFault.{OrderFault}
 use Rattle.order.specs.declared.Order.{Order}
 use Rattle.std.specs.Prelude.{Result, Ok, Err}
-use mathlib.Core.Path.{◌≡◌, refl, sym, ◌∙◌, ap}
+use mathlib.Core.Path.{◌≡◌, refl, sym, ap}
 use mathlib.Core.Logic.{◌↔◌, ◌⊎◌, inl, inr}
 use Prim.Native.Nat.{ℕ, ◌+◌, ◌*◌, ◌≤◌, ◌<◌}
 use native.Mathlib.Omega.{arith}
@@ -41,16 +41,6 @@ from_limit : (f : Bool) (x : ℕ) → (f ≡ false → x ≡ 0) → (f || eqb x 
 from_limit true x h = refl
 from_limit false x h = eq-eqb _ _ (h refl)
 
--- what the test of a limit answers, and the tests of that answer
-pub limit_bad : (f : Bool) (x : ℕ) {r : Bool} → r ≡ (f || eqb x 0) → r ≡ false → (f ≡ false → x ≡ 0) → ⊥
-limit_bad f x {r} e n h =
-    let b = from_limit f x h in
-    let z : ◌≡◌ {A = ℕ} 0 1 = cc in
-    omega arith
-
-pub limit_held : {r t : Bool} → r ≡ t → r ≡ true → t ≡ true
-limit_held {r} e n = sym e ∙ n
-
 module _ (s : List ℕ) where
   to_good : good_order s ≡ true → GoodOrder s
   unfolding good_order
@@ -80,7 +70,7 @@ module _ (s : List ℕ) where
       }
 
   -- where all else is good, the length decides
-  pub length_decides : length s ≤ 65536 → 112 ≤ length s → get_or s 0 0 ≡ 71 → get_or s 1 0 ≡ 66 → get_or s 2 0 ≡ 79 → half s 3 ≡ 1 → flags s < 8
+  length_decides : length s ≤ 65536 → 112 ≤ length s → get_or s 0 0 ≡ 71 → get_or s 1 0 ≡ 66 → get_or s 2 0 ≡ 79 → half s 3 ≡ 1 → flags s < 8
       → (low_flag s || eqb (eight s 8) 0) ≡ true → (high_flag s || eqb (eight s 16) 0) ≡ true → quarter s 108 ≡ 0
       → eqb (length s) (112 + list_count s * 24 + tree_length s) ≡ good_order s
   unfolding good_order
@@ -96,7 +86,7 @@ module _ (s : List ℕ) where
   pub good_order_lem : (good_order s ≡ true) ↔ GoodOrder s
   good_order_lem = (to_good, from_good)
 
-  pub bad_order : (GoodOrder s → ⊥) → false ≡ good_order s
+  bad_order : (GoodOrder s → ⊥) → false ≡ good_order s
   bad_order n = go (good_order s) refl
     where
       go : (t : Bool) → good_order s ≡ t → false ≡ good_order s

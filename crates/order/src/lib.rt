@@ -38,62 +38,36 @@ impl Numbered for OrderFault {
     }
 }
 
-// Whether the limit at a place is flagged, or else 0.
+// Whether the limit at a place is flagged, or else 0: a flag of its own says in the file which limits count.
 fn limit_good(s: &[u8], flagged: bool, at: usize) -> bool
     ensures { result ≡ (flagged || eqb (eight s.now at) 0) }
 {
-    if flagged {
-        return true;
-    }
-    words::le64(s, at) == 0
+    flagged || words::le64(s, at) == 0
 }
 
 // Whether the bytes keep the layout.
+#[tactic(auto, unfolding(crate::specs::Layout::good_order))]
 fn good_order(s: &[u8]) -> bool
     ensures { result ≡ good_order s.now }
 {
-    if 65536 < s.len() {
-        return false;
-    }
-    if s.len() < 112 {
-        return false;
-    }
-    if s[0] != b'G' {
-        return false;
-    }
-    if s[1] != b'B' {
-        return false;
-    }
-    if s[2] != b'O' {
-        return false;
-    }
-    if words::le16(s, 3) != 1 {
-        return false;
-    }
-    let flags = s[5];
-    if 8 <= flags {
-        return false;
-    }
-    if !limit_good(s, flags / 2 % 2 == 1, 8) {
-        return false;
-    }
-    if !limit_good(s, flags / 4 % 2 == 1, 16) {
-        return false;
-    }
-    if words::le32(s, 108) != 0 {
-        return false;
-    }
-    s.len() == 112 + words::le16(s, 6) * 24 + words::le32(s, 104)
+    s.len() <= 65536
+        && 112 <= s.len()
+        && s[0] == b'G'
+        && s[1] == b'B'
+        && s[2] == b'O'
+        && words::le16(s, 3) == 1
+        && s[5] < 8
+        && limit_good(s, s[5] / 2 % 2 == 1, 8)
+        && limit_good(s, s[5] / 4 % 2 == 1, 16)
+        && words::le32(s, 108) == 0
+        && s.len() == 112 + words::le16(s, 6) * 24 + words::le32(s, 104)
 }
 
 // The limit at a place, missing where it is not flagged.
 fn limit_by(s: &[u8], flagged: bool, at: usize) -> Option<u64>
     ensures { result ≡ limit_by flagged (eight s.now at) }
 {
-    if flagged {
-        return Some(words::le64(s, at));
-    }
-    None
+    flagged.then_some(words::le64(s, at))
 }
 
 // One of the five pairs.

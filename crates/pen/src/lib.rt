@@ -1,22 +1,17 @@
 // Bytes put into a lent buffer: as they are, as big-endian numbers, zeros, last to first; and the end of a buffer turned round. What has no
 // room from its place on is not put at all, so that no function here asks anything of its caller.
+// A place is handed on as a number: a value that held the lent buffer and the place would be no shorter at a call.
 #![tactic(auto)]
 
 ghost use Rattle.std.specs.Prelude.{◌≡◌, ◌++◌, reverse, take, drop, replicate};
 ghost use Rattle.pen.specs.Numbers.{bytes4, bytes8};
 ghost use Rattle.pen.specs.Writing.{HasRoom, Put};
 
-// Whether a buffer has room for n bytes from a place on.
+// Whether a buffer has room for n bytes from a place on. The three below that ask share no more than this and a sum: each fills in its way.
 fn has_room(len: usize, at: usize, n: usize) -> bool
     ensures { HasRoom at n len result }
 {
-    if len < at {
-        return false;
-    }
-    if len - at < n {
-        return false;
-    }
-    true
+    at <= len && n <= len - at
 }
 
 // Puts some bytes at a place of the buffer, and answers the place behind them.

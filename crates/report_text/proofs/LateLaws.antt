@@ -23,19 +23,19 @@ use Rattle.figures.specs.Figures.{decimal_text, labelled}
 use Rattle.figures.proofs.DigitsLaws.{decimal_length}
 use Rattle.report_text.specs.Text.{newline, count_line, area_lines, refused_line}
 use Rattle.report_text.proofs.TextLaws.{lines_length}
-use Rattle.late_claim.specs.Late.{late_number}
-use Rattle.late_claim.proofs.Claiming.{zero_done, other}
+use Rattle.late_claim.specs.Late.{late_refusal_number, late_number}
 use Rattle.late_run.specs.declared.LateRun.{LateRun}
 use Rattle.late_run.specs.Run.{Run, late_all, ran}
 use Rattle.report_text.specs.LateText.{made_line, refused_at_line, last_line, lines_of, run_text, text_behind, late_text, late_slots}
 
--- ── The last line: k is the answer's number ──
-module _ (a : Result Unit LateRefusal) (i : ℕ) {k : ℕ} (is : k ≡ late_number a) where
-  pub last_made : k ≡ 0 → made_line i ≡ last_line a i
-  last_made z = rw (zero_done a (sym is ∙ z))
+-- ── The last line ──
+module _ (a : Result Unit LateRefusal) (i : ℕ) where
+  pub last_made : a ≡ Ok tt → made_line i ≡ last_line a i
+  last_made e = rw e
 
-  pub last_refused : (k ≡ 0 → ⊥) → refused_at_line k i ≡ last_line a i
-  last_refused f = ap (λ (n : ℕ). refused_at_line n i) is ∙ sym (other a (λ z. f (is ∙ z)) (made_line i) (refused_at_line (late_number a) i))
+  -- k is the refusal's number
+  pub last_refused : {r : LateRefusal} {k : ℕ} → a ≡ Err r → k ≡ late_refusal_number r → refused_at_line k i ≡ last_line a i
+  last_refused e is = rw (e, is)
 
 -- ── The areas and the last line ──
 pub lines_of_lem : (n : ℕ) {k : ℕ} (l : List ℕ) (a : Result Unit LateRefusal) (i : ℕ) → length l ≡ 1024 → k ≡ min n 512

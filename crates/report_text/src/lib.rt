@@ -1,5 +1,7 @@
 // The report's text: the count of the areas, each base and size, the page sheet; or the number of the refusal. And the text of late claims
 // behind an order file: the areas when they are made, and how many were, or which was refused.
+//
+// A place in the text is a number, as in pen. The text and the slots are arrays with a length beside: there is no heap, and C lends them so.
 #![tactic(auto)]
 
 ghost use Rattle.std.specs.Prelude.{◌≡◌, ◌+◌, ◌≤◌, min, length};
@@ -110,14 +112,17 @@ pub fn report(file: &[u8], slots: &mut [u64; 1024], out: &mut [u8; 17500]) -> us
 fn put_last(out: &mut [u8], at: usize, answer: Result<(), LateRefusal>, index: usize) -> usize
     ensures { Lands out.old at (last_line answer index) out.new result }
 {
-    let number = answer.number();
-    if number == 0 {
-        let a = put_labelled(out, at, b"late ", index as u64);
-        return put(out, a, b"\n");
+    match answer {
+        Ok(()) => {
+            let a = put_labelled(out, at, b"late ", index as u64);
+            put(out, a, b"\n")
+        }
+        Err(refusal) => {
+            let a = put_labelled(out, at, b"refused ", refusal.number() as u64);
+            let b = put_labelled(out, a, b" at ", index as u64);
+            put(out, b, b"\n")
+        }
     }
-    let a = put_labelled(out, at, b"refused ", number as u64);
-    let b = put_labelled(out, a, b" at ", index as u64);
-    put(out, b, b"\n")
 }
 
 // The areas in the slots and the last line, at the start of the buffer. It holds the longest text that there can be: 512 areas, and numbers

@@ -1,6 +1,6 @@
 // Standard input and standard output for programs. A read or a write that fails is told on standard error, with what failed and why.
-// No contract can say which bytes the system gives or takes: it says how many of a space hold what was read, and which bytes these are of
-// a reader whose bytes are known, as of one over memory.
+// No contract can say which bytes the system gives or takes: a contract says how many of a space hold what was read, and which bytes these
+// are of a reader whose bytes are known, as of one over memory.
 //
 // A program's `main` lends its runtime's streams; a function that C calls has them as parameters, which take no bytes.
 #![tactic(auto)]

@@ -1,18 +1,16 @@
--- What the list's call says of its run: 1 where a kind is unknown; else the run is done, or is refused, as the call is. Assumes nothing.
-use Rattle.memory.specs.declared.MapRefusal.TheVariants.{UnknownKind, MapFull}
-use Rattle.memory.specs.declared.MapRefusal.{MapRefusal}
-use Rattle.std.specs.Prelude.{Result, Ok, Err}
+-- What the list's call says of its run: UnknownKind where a kind is unknown; else the run is done, or is refused, as the call is. Assumes nothing.
+use Rattle.memory.specs.declared.MapRefusal.TheVariants.{UnknownKind}
+use Rattle.std.specs.Prelude.{Ok, Err}
 use mathlib.Core.Path.{◌≡◌, refl, ap, sym, ◌∙◌}
 use mathlib.Core.Bool.{Bool, true, false}
 use mathlib.Core.List.{List, [], ◌∷◌, ◌++◌}
 use mathlib.Core.Logic.{⊎_elim}
 use Prim.Native.Nat.{ℕ}
-use native.Mathlib.Omega.{arith}
 use Rattle.words.proofs.BytesLaws.{never}
 use Rattle.entry.specs.declared.Claim.{Claim}
 use Rattle.memory.specs.declared.MemoryMap.{MemoryMap}
 use Rattle.memory.specs.declared.Registered.{Registered}
-use Rattle.memory.specs.Map.{answer_number, registered}
+use Rattle.memory.specs.Map.{registered}
 use Rattle.memory.specs.Run.{is_done, registered_all}
 use Rattle.memory.proofs.RunLaws.{settled_done}
 use Rattle.bootloader.specs.List.{all_known, claims, listed}
@@ -29,24 +27,18 @@ run_refused p m (c ∷ cs) ds e =
     (λ d. rw (run_on p m c (cs ++ ds) d, run_on p m c cs d) (run_refused p (registered p m c).map cs ds (rw (run_on p m c cs d) at e)))
     (λ n s. run_stops p m c (cs ++ ds) s ∙ sym (run_stops p m c cs s))
 
--- the answer whose number is 1
-is_unknown : (a : Result Unit MapRefusal) → answer_number a ≡ 1 → a ≡ Err UnknownKind
-is_unknown (Ok tt) e = absurd (omega arith)
-is_unknown (Err UnknownKind) e = refl
-is_unknown (Err MapFull) e = absurd (omega arith)
-
 -- x is what the list's call gave
 module _ (p : ℕ) (m : MemoryMap) (l : List ℕ) (x : Registered) (is : x ≡ listed p m l) where
-  pub list_unknown : answer_number x.answer ≡ 1 → all_known l ≡ false
+  pub list_unknown : x.answer ≡ Err UnknownKind → all_known l ≡ false
   list_unknown e =
       ⊎_elim
       (λ y.
-      let s = (list_unknown_exactly p m l).0 (rw is at (is_unknown x.answer e)) in
+      let s = (list_unknown_exactly p m l).0 (rw is at e) in
       absurd (s.is (y.1 s.claim s.among)))
       (λ y. y.0)
       (judged (claims l))
 
-  pub list_known : (answer_number x.answer ≡ 1 → ⊥) → all_known l ≡ true
+  pub list_known : (x.answer ≡ Err UnknownKind → ⊥) → all_known l ≡ true
   list_known f = go (all_known l) refl
     where
       go : (t : Bool) → all_known l ≡ t → t ≡ true

@@ -1,7 +1,6 @@
 -- The report and the slots, as the code ends: by what reading the order file said, by the verdict on its sources, and by what the build
 -- answered. Assumes nothing.
 use Rattle.startup.specs.declared.Summary.{Summary}
-use Rattle.order.specs.declared.OrderFault.TheVariants.{BadOrder as NoOrder}
 use Rattle.areas.specs.declared.AreasRefusal.TheVariants.{TooManyAreas as BuildFull}
 use Rattle.areas.specs.declared.AreasRefusal.{AreasRefusal}
 use Rattle.std.specs.Prelude.{Option, ℕ, Result, Ok, Err}
@@ -24,7 +23,6 @@ use Rattle.order.specs.declared.Order.{Order}
 use Rattle.order.specs.declared.OrderFault.{OrderFault}
 use Rattle.order.specs.Layout.{order_of}
 use Rattle.startup.specs.declared.Refusal.{Refusal}
-use Rattle.startup.specs.declared.Refusal.TheVariants.{BadOrder, TooManyAreas}
 use Rattle.startup.specs.declared.Sources.{Sources}
 use Rattle.startup.specs.Verdict.{of_order, of_areas, run_of, verdict_of, judged_sources, sources_of}
 use Rattle.startup.specs.Report.{finished, report_of, slots_after, Reports, Finishes, reported}

@@ -8,8 +8,9 @@ use Prim.Native.Nat.{ℕ}
 use Rattle.words.proofs.BytesLaws.{never}
 use Rattle.page.specs.Round.{Page}
 use Rattle.memory.specs.declared.MemoryMap.{MemoryMap}
+use Rattle.memory.specs.declared.MapRefusal.TheVariants as map
 use Rattle.memory.specs.declared.Registered.{Registered}
-use Rattle.memory.specs.Map.{blank, answer_number}
+use Rattle.memory.specs.Map.{blank}
 use Rattle.memory.specs.Made.{Made}
 use Rattle.memory.specs.Run.{is_done, registered_all}
 use Rattle.memory.proofs.MapLaws.{blank_made}
@@ -82,10 +83,10 @@ module _ (p : ℕ) (s : List ℕ) (o : Order) where
     is : x ≡ listed p blank (list_in s o)
     is = rw (← em, ← el) ex
 
-    pub unknown_sources : answer_number x.answer ≡ 1 → rejection UnknownKind ≡ sources_of p s o
+    pub unknown_sources : x.answer ≡ Err map.UnknownKind → rejection UnknownKind ≡ sources_of p s o
     unknown_sources e = by_list (list_unknown p blank (list_in s o) x is e)
 
-    module _ (known : answer_number x.answer ≡ 1 → ⊥) (y : TreeRegistered) (ey : y ≡ tree_registered p x.map t o.arm) where
+    module _ (known : x.answer ≡ Err map.UnknownKind → ⊥) (y : TreeRegistered) (ey : y ≡ tree_registered p x.map t o.arm) where
       treed : y ≡ tree_registered p x.map (tree_in s o) o.arm
       treed = rw (← et) ey
 

@@ -14,12 +14,13 @@ use areas::AreasRefusal;
 use cells::Region;
 use dtb::TreeRefusal;
 use entry::{BootloaderMemoryKind, Claim};
-use memory::MemoryMap;
+use memory::{MapRefusal, MemoryMap};
 use numbers::Numbered;
 use order::{Order, OrderFault};
 use sheet::PageSheet;
 
-// Why an order file is refused, in the order in which this is checked. Each case has its number in document 01.
+// Why an order file is refused, in the order in which this is checked. Each case has its number in document 01: numbers at cases want a flat
+// enum, so the layers below have no case each, but are turned into these by the functions below.
 #[derive(Clone, Copy)]
 pub enum Refusal {
     BadOrder = 9,
@@ -77,7 +78,7 @@ impl From<AreasRefusal> for Refusal {
 }
 
 // The map with all registrations of an order file, or the empty one beside the refusal: that it is empty then is promised, so this is no
-// Result. The map stands first so that its copies stay aligned.
+// Result. The map stands first so that its copies stay aligned. It is a struct of its own since its definitions name it.
 #[derive(Clone, Copy)]
 pub struct Sources {
     pub map: MemoryMap,
@@ -91,7 +92,8 @@ pub struct Summary {
     pub sheet: PageSheet,
 }
 
-// The map with all registrations of an order file beside what the build answers, or the empty map beside a refusal, which wrote nothing.
+// The map with all registrations of an order file beside what the build answers, or the empty map beside a refusal, which wrote nothing: as
+// in Sources, so this is no Result. The map stands first so that its copies stay aligned.
 #[derive(Clone, Copy)]
 pub struct Start {
     pub map: MemoryMap,
@@ -155,7 +157,7 @@ pub fn register_memory_from_kernel_args(file: &[u8], order: Order) -> Sources
     let list = words::part(file, order.list.at, order.list.len);
     let tree = words::part(file, order.tree.at, order.tree.len);
     let listed = bootloader::register_bootloader_areas(MemoryMap::empty(), list);
-    if listed.answer.number() == 1 {
+    if let Err(MapRefusal::UnknownKind) = listed.answer {
         return rejected(Refusal::UnknownKind);
     }
     let treed = dtb::register_devicetree(listed.map, tree, order.arm);
@@ -168,7 +170,7 @@ pub fn register_memory_from_kernel_args(file: &[u8], order: Order) -> Sources
     register_pairs(treed.map, order)
 }
 
-// The finished areas of a map with their page sheet.
+// The finished areas of a map with their page sheet. The two limits stay apart, as in areas: the kernel's Rust has two parameters.
 fn finish(
     map: MemoryMap,
     low: Option<u64>,
@@ -187,7 +189,7 @@ fn finish(
     })
 }
 
-// The empty map beside a refusal, that of the areas too.
+// The empty map beside a refusal, that of the areas too: `rejected` does it for Sources, and each of the two structs has its own definitions.
 fn not_started(refusal: Refusal) -> Start
     ensures { result ≡ not_started refusal }
 {

@@ -56,7 +56,7 @@ fn whole_call(calls: &[u8], next: usize, call: CallRead) -> Option<Read>
     Some(Read { next, call })
 }
 
-// The call at a place, if one stands there.
+// The call at a place, if one stands there. The letters are those of the input's form.
 #[tactic(auto, unfolding(crate::specs::Input::read_at, crate::specs::Input::by_letter))]
 pub fn read_call(calls: &[u8], at: usize) -> Option<Read>
     ensures { result ≡ read_at calls.now at }
@@ -64,29 +64,26 @@ pub fn read_call(calls: &[u8], at: usize) -> Option<Read>
     if calls.len() <= at {
         return None;
     }
-    let letter = calls[at];
-    if letter == b'R' {
-        let address = words::le64(calls, at + 1);
-        let size = words::le64(calls, at + 9);
-        return whole_call(calls, at + 17, CallRead::Reservation(address, size));
+    match calls[at] {
+        b'R' => {
+            let address = words::le64(calls, at + 1);
+            let size = words::le64(calls, at + 9);
+            whole_call(calls, at + 17, CallRead::Reservation(address, size))
+        }
+        b'B' => {
+            let n = words::le32(calls, at + 1);
+            whole_call(calls, at + 5 + n, CallRead::Begin(at + 5, n))
+        }
+        b'P' => {
+            let n = words::le32(calls, at + 1);
+            let v = words::le32(calls, at + 5);
+            let value = at + 9 + n;
+            whole_call(calls, value + v, CallRead::Property(at + 9, n, value, v))
+        }
+        b'E' => whole_call(calls, at + 1, CallRead::End),
+        b'F' => whole_call(calls, at + 1, CallRead::Finish),
+        _ => None,
     }
-    if letter == b'B' {
-        let n = words::le32(calls, at + 1);
-        return whole_call(calls, at + 5 + n, CallRead::Begin(at + 5, n));
-    }
-    if letter == b'P' {
-        let n = words::le32(calls, at + 1);
-        let v = words::le32(calls, at + 5);
-        let value = at + 9 + n;
-        return whole_call(calls, value + v, CallRead::Property(at + 9, n, value, v));
-    }
-    if letter == b'E' {
-        return whole_call(calls, at + 1, CallRead::End);
-    }
-    if letter == b'F' {
-        return whole_call(calls, at + 1, CallRead::Finish);
-    }
-    None
 }
 
 // Makes a call that was read, and answers how long the blob is, which finishing tells; any other call tells 0.

@@ -29,20 +29,16 @@ pub struct Writer {
 // Why a call is refused, in the order in which this is checked. Each case has its number in document 02.
 #[derive(Clone, Copy)]
 pub enum WriteRefusal {
-    OutOfTurn,
-    OverLimit,
-    NoRoom,
+    OutOfTurn = 10,
+    OverLimit = 6,
+    NoRoom = 11,
 }
 
 impl Numbered for WriteRefusal {
     ghost number_of = { refusal_number };
 
     fn number(self) -> u8 {
-        match self {
-            WriteRefusal::OutOfTurn => 10,
-            WriteRefusal::OverLimit => 6,
-            WriteRefusal::NoRoom => 11,
-        }
+        self as u8
     }
 }
 

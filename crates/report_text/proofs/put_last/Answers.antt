@@ -5,18 +5,16 @@ use Rattle.pen.proofs.WritingLaws.{lands_append, as_text}
 use Rattle.figures.proofs.PutLaws.{labelled_lands}
 use Rattle.report_text.proofs.put_last.Goals as goal
 
-pub returns-then-number-eq0 : goal.returns-then-number-eq0
+pub returns-in-Ok : goal.returns-in-Ok
 unfolding made_line
-returns-then-number-eq0 c =
+returns-in-Ok c =
     let a = c.args in
-    as_text
-    (last_made a.answer a.index c.number-number.ensures c.if-number-eq0.true)
-    (lands_append (labelled_lands c.put_labelled-a.ensures) c.put.ensures.fits)
+    as_text (last_made a.answer a.index c.in-Ok.is) (lands_append (labelled_lands c.put_labelled-a.ensures) c.put.ensures.fits)
 
-pub returns : goal.returns
+pub returns-in-Err : goal.returns-in-Err
 unfolding refused_at_line
-returns c =
+returns-in-Err c =
     let a = c.args in
     as_text
-    (last_refused a.answer a.index c.number-number.ensures c.if-number-eq0.false)
-    (lands_append (labelled_lands c.put_labelled-a-2.ensures) (lands_append (labelled_lands c.put_labelled-b.ensures) c.put-2.ensures.fits))
+    (last_refused a.answer a.index c.in-Err.is c.number.ensures)
+    (lands_append (labelled_lands c.put_labelled-a-in-Err.ensures) (lands_append (labelled_lands c.put_labelled-b.ensures) c.put-in-Err.ensures.fits))

@@ -1,5 +1,5 @@
 -- `register_pairs` hands back the empty map where a pair is refused.
-use mathlib.Core.Path.{◌≡◌, ap, sym, ◌∙◌}
+use mathlib.Core.Path.{◌≡◌, ap, ◌∙◌}
 use Rattle.memory.specs.declared.Registered.{Registered}
 use Rattle.memory.specs.Map.{answered}
 use Rattle.memory.specs.Run.{is_done, registered_all}
