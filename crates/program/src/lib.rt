@@ -1,5 +1,6 @@
 // The programs `report` and `late` as functions over the streams that they are lent, which answer how they ended. The programs of those names
-// lend the streams of their runtime; `program_c` offers both functions to C.
+// lend the streams of their runtime; `program_c` offers both functions to C. There is no heap: what is read and the text are arrays with a
+// length beside.
 #![tactic(auto)]
 
 ghost use Rattle.std.specs.Prelude.{◌≡◌};

@@ -40,20 +40,14 @@ pub struct WharfthrumLate {
 fn has_share(share: Option<f64>) -> u64
     ensures { result ≡ has_share share }
 {
-    match share {
-        None => 0,
-        Some(_) => 1,
-    }
+    u64::from(share.is_some())
 }
 
 // The share, or 0.0 where there is none.
 fn share_or_zero(share: Option<f64>) -> f64
     ensures { result ≡ share_float share }
 {
-    match share {
-        None => 0.0,
-        Some(x) => x,
-    }
+    share.unwrap_or(0.0)
 }
 
 // A report in plain fields.
@@ -89,7 +83,8 @@ pub extern "C" fn wharfthrum_build(file: &[u8], slots: &mut [u64]) -> Wharfthrum
     plain(startup::init(file, slots))
 }
 
-// Builds the same in 512 slots, puts the report's text at the start of the buffer and leaves the rest of it. Answers how long the text is.
+// Builds the same in 512 slots, puts the report's text at the start of the buffer and leaves the rest of it. Answers how long the text is:
+// C lends a buffer of a fixed size.
 #[unsafe(no_mangle)]
 pub extern "C" fn wharfthrum_report(
     file: &[u8],
@@ -132,7 +127,7 @@ pub extern "C" fn wharfthrum_build_map(
 }
 
 // A late claim on the map in the lent numbers and on a finished table, of which `count` slots are used. What it asks of those numbers
-// `wharfthrum_build_map` and every late claim leave so: proofs/Asked.
+// `wharfthrum_build_map` and every late claim leave so: proofs/Asked. The claim comes as three numbers, as C passes it.
 #[unsafe(no_mangle)]
 pub extern "C" fn wharfthrum_claim_late(
     map: &mut [u64; 1537],

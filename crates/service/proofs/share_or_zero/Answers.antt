@@ -1,9 +1,16 @@
--- `share_or_zero` answers the share, or +0: the literal 0.0 is its bit pattern, which reads as +0.
-use mathlib.Core.Path.{ap, sym}
+-- `share_or_zero` answers the share, or +0. Assumes nothing.
+use mathlib.Core.Path.{◌≡◌, refl, ◌∙◌}
 use lib.Ieee
+use Rattle.std.specs.Prelude.{Option, Some, None, Float}
+use Rattle.std.specs.Option.{unwrap_or}
+use Rattle.sheet.specs.Nearest.{plus_zero}
 use Rattle.service.specs.Plain.{share_float}
 use Rattle.service.proofs.share_or_zero.Goals as goal
 
-pub returns-in-None : goal.returns-in-None
+either : (o : Option Float) → unwrap_or o plus_zero ≡ share_float o
+either None = refl
+either (Some x) = refl
+
+pub returns : goal.returns
 unfolding Ieee.of_bits
-returns-in-None c = sym (ap share_float c.in-None.is)
+returns c = c.unwrap_or.ensures ∙ either c.args.share
