@@ -67,7 +67,11 @@ impl MemoryEntry {
         let start = self.start.max(other.start);
         let end = self.end.min(other.end);
         if start < end {
-            return Some(MemoryEntry { start, end, kind: self.kind });
+            return Some(MemoryEntry {
+                start,
+                end,
+                kind: self.kind,
+            });
         }
         None
     }
@@ -84,7 +88,11 @@ impl MemoryEntry {
         }
         let start = self.start.min(other.start);
         let end = self.end.max(other.end);
-        Some(MemoryEntry { start, end, kind: self.kind })
+        Some(MemoryEntry {
+            start,
+            end,
+            kind: self.kind,
+        })
     }
 }
 
