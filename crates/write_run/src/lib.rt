@@ -37,7 +37,7 @@ pub enum Stop {
 }
 
 // How long the finished blob is, or 0; the index of the call that stopped the run, counted from 0, or how many were made; and what
-// stopped it.
+// stopped it. The length stands beside that, as in the definition `Run`.
 #[derive(Clone, Copy)]
 pub struct WriteRun {
     pub size: usize,
@@ -86,7 +86,7 @@ pub fn read_call(calls: &[u8], at: usize) -> Option<Read>
     }
 }
 
-// Makes a call that was read, and answers how long the blob is, which finishing tells; any other call tells 0.
+// Makes a call that was read, and answers how long the blob is, which finishing tells; any other call tells 0, as in `outcome`.
 fn make_call(
     calls: &[u8],
     call: CallRead,

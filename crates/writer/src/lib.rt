@@ -1,6 +1,6 @@
 // A writer of flattened trees into a lent buffer: request L1 of document 02. Each call changes the writer's place, and a refused one nothing.
 // While it writes, the names grow down from the buffer's end, last byte first; finishing turns them round behind the structure. No call asks
-// anything: every writer value, buffer, name and value gets an answer.
+// anything: every writer value, buffer, name and value gets an answer. A place in the buffer is a number, as in pen.
 #![tactic(auto)]
 
 ghost use Rattle.std.specs.Prelude.{◌≡◌, [], ◌∷◌, ◌++◌, reverse, ◌+◌, ◌≤◌, length};
