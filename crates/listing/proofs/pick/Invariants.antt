@@ -1,8 +1,6 @@
 -- `pick` goes over the held entries in turn. The invariant: what is left to go over, laid where we are, ends as the whole does.
-use Prim.Native.Nat.{◌≤◌}
 use lib.ListN.{length}
 use Rattle.memory.specs.Map.{slots_of, blank}
-use Rattle.memory.specs.Made.{Full}
 use Rattle.listing.specs.Listing.{wants, those, laid}
 use Rattle.listing.proofs.ListingLaws.{Picking}
 use Rattle.listing.proofs.pick.Given as goal
