@@ -12,6 +12,7 @@ ghost use Rattle.claims.specs.Values.{child_value, dynamic_at};
 ghost use Rattle.claims.specs.declared.Way.TheVariants.{Reserve, Controllers};
 
 use cells::{Cells, RangeRow, RegRow, Region};
+use entry::BootloaderMemoryKind;
 use fdt::{Block, Tree};
 use numbers::Numbered;
 use windows::{Bus, Window};
@@ -31,8 +32,8 @@ impl Way {
         ensures { result ≡ kind_by self }
     {
         match self {
-            Way::Reserve => 3,
-            Way::Soc | Way::Controllers => 0x101,
+            Way::Reserve => BootloaderMemoryKind::Reserved.number(),
+            Way::Soc | Way::Controllers => BootloaderMemoryKind::Device.number(),
         }
     }
 }

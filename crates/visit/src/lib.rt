@@ -16,7 +16,7 @@ ghost use Rattle.visit.specs.declared.Stage.TheVariants.{Entries};
 
 use cells::{CellCount, Cells, RegRow, Region};
 use claims::Way;
-use entry::Claim;
+use entry::{BootloaderMemoryKind, Claim};
 use fdt::{Block, Tree};
 use reservations::Reservation;
 use windows::{Bus, Window};
@@ -183,7 +183,7 @@ fn visit_fdt_memory_reservations<'a>(tree: Tree<'a>, block: &'a [u8], cursor: Cu
         Claim {
             base: entry.address,
             size: entry.size,
-            kind: 3,
+            kind: BootloaderMemoryKind::Reserved.number(),
         },
         next,
     )
@@ -266,7 +266,7 @@ fn virt_step(cursor: Cursor) -> Step
             Claim {
                 base: 0x0800_0000,
                 size: 0x0800_0000,
-                kind: 0x101,
+                kind: BootloaderMemoryKind::Device.number(),
             },
             with_row(cursor, 1),
         );
@@ -275,7 +275,7 @@ fn virt_step(cursor: Cursor) -> Step
         Claim {
             base: 0x1000_0000,
             size: 0x3000_0000,
-            kind: 0x101,
+            kind: BootloaderMemoryKind::Device.number(),
         },
         start_at(Stage::Over),
     )
@@ -291,7 +291,7 @@ fn console_step<'a>(tree: Tree<'a>) -> Step
             Claim {
                 base: region.address,
                 size: region.size,
-                kind: 0x101,
+                kind: BootloaderMemoryKind::Device.number(),
             },
             next,
         ),

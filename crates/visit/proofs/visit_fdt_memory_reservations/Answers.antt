@@ -22,5 +22,5 @@ returns-then-entry c =
 
 pub returns : goal.returns
 returns c =
-    entry_gives _ _ _ _ _ _ _ c.reserved_entry.ensures _ c.in-Entry.is _ (block_near _ c.if-entry-eq0.false c.if-entry.false)
-    c.with_row-next.ensures
+    rw c.number.ensures (entry_gives _ _ _ _ _ _ _ c.reserved_entry.ensures _ c.in-Entry.is _
+    (block_near _ c.if-entry-eq0.false c.if-entry.false) c.with_row-next.ensures)
