@@ -1,6 +1,7 @@
 // Reading an opened tree: names, children, properties, paths and document order. Each function takes the tree's blocks and a place in
-// the structure block; whatever these are, it answers. A node's place is that of its FDT_BEGIN_NODE token. The functions are no methods of
-// a node, for the kernel's getprop and subnode are none.
+// the structure block; whatever these are, it answers. A node's place is that of its FDT_BEGIN_NODE token: a number, since
+// a tree is its bytes as they are lent, and there is no heap for nodes. The names are libfdt's, whose functions take a node's place as well, so
+// these are no methods of a node.
 #![tactic(auto)]
 
 ghost use Rattle.std.specs.Prelude.{◌≡◌, ◌||◌, ◌≤◌, length};
@@ -195,7 +196,8 @@ fn child_from<'a>(tree: Tree<'a>, p: usize, step: &'a [u8]) -> Option<usize>
     }
 }
 
-// The first child of the node at a place whose whole name, or part before `@`, is the step.
+// The first child of the node at a place whose whole name, or part before `@`, is the step. It and getprop are no twins: two lines each, over
+// different calls.
 pub fn subnode<'a>(tree: Tree<'a>, node: usize, step: &'a [u8]) -> Option<usize>
     ensures { result ≡ child_at tree.entry.structure.now tree.entry.strings.now node step.now }
 {

@@ -14,7 +14,8 @@ use cells::{CellCount, Cells, RegRow, Region};
 use fdt::Tree;
 use windows::{Bus, Window};
 
-// What is translated: a given region of the target, or the first entry of its `reg`.
+// What is translated: a given region of the target, or the first entry of its `reg`. The second is a region too, and not the lack of one, so
+// this is no Option.
 #[derive(Clone, Copy)]
 pub enum Sought {
     Given(Region),

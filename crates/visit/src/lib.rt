@@ -299,7 +299,8 @@ fn console_step<'a>(tree: Tree<'a>) -> Step
     }
 }
 
-// A step from a cursor on: one entry, one region or one child further.
+// A step from a cursor on: one entry, one region or one child further. The stage is matched and no closure: it is part of the cursor, which the
+// caller holds between two steps.
 pub fn next_claim<'a>(tree: Tree<'a>, block: &'a [u8], arm: bool, cursor: Cursor) -> Step
     ensures { result ≡ step_of tree.entry.structure.now tree.entry.strings.now block.now arm cursor }
 {

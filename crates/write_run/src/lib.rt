@@ -87,6 +87,7 @@ pub fn read_call(calls: &[u8], at: usize) -> Option<Read>
 }
 
 // Makes a call that was read, and answers how long the blob is, which finishing tells; any other call tells 0, as in `outcome`.
+// The call is matched and no closure, since it was read from the input.
 fn make_call(
     calls: &[u8],
     call: CallRead,
