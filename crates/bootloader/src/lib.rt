@@ -1,7 +1,7 @@
 // The bootloader's list: 24 bytes an entry, registered whole or not at all.
 #![tactic(auto)]
 
-ghost use Rattle.std.specs.Prelude.{◌≡◌, ◌<◌, ◌/◌, length};
+ghost use Rattle.std.specs.Prelude.{◌≡◌};
 ghost use Rattle.memory.specs.Map.{answered};
 ghost use Rattle.memory.specs.Made.{Made};
 ghost use Rattle.memory.specs.Run.{registered_all};
@@ -10,25 +10,25 @@ ghost use Rattle.bootloader.specs.List.{claim_at, all_known, claims, listed};
 use entry::Claim;
 use memory::{MapRefusal, MemoryMap, Registered};
 
-// Entry i of a list, by its index: so the definitions and their promise go through a list.
+// Entry i of a list, by its index: so the definitions and their promise go through a list. Where the list has no such entry, each byte that
+// is not there counts as 0, as in words, so that nothing is asked of i.
 pub fn claim_at(list: &[u8], i: usize) -> Claim
-    requires { i < length list.now / 24 }
     ensures { result ≡ claim_at list.now i }
 {
-    let at = i * 24;
+    let at = i.saturating_mul(24);
     Claim {
         base: words::le64(list, at),
-        size: words::le64(list, at + 8),
-        kind: words::le64(list, at + 16),
+        size: words::le64(list, at.saturating_add(8)),
+        kind: words::le64(list, at.saturating_add(16)),
     }
 }
 
-// Whether every entry of a list has one of the seven kinds.
+// Whether every entry of a list has one of the seven kinds. The kind alone is read: it is a third of the entry.
 fn all_known(list: &[u8]) -> bool
     ensures { result ≡ all_known list.now }
 {
     for i in 0..list.len() / 24 {
-        let Some(_) = entry::kind_of(claim_at(list, i).kind) else {
+        let Some(_) = entry::kind_of(words::le64(list, i * 24 + 16)) else {
             return false;
         };
     }

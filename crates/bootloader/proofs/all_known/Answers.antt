@@ -6,12 +6,12 @@ use Rattle.bootloader.proofs.all_known.Goals as goal
 
 pub returns-in_default : goal.returns-in_default
 returns-in_default c =
-    let r = c.kind_of.ensures ∙ ap (λ x. kind_of x.kind) c.claim_at.ensures in
+    let r = c.kind_of.ensures ∙ ap kind_of c.le64.ensures.is in
     sym (known_stop _ _ _ _ c.loop-i-test.true r (ap is_known c.in_default.is)) ∙ c.loop-i.invariant
 
 pub loop-i-preserved : goal.loop-i-preserved
 loop-i-preserved c =
-    let r = c.kind_of.ensures ∙ ap (λ x. kind_of x.kind) c.claim_at.ensures in
+    let r = c.kind_of.ensures ∙ ap kind_of c.le64.ensures.is in
     sym (known_step _ _ _ _ c.loop-i-test.true r (ap is_known c.in-Some.is)) ∙ c.loop-i.invariant
 
 pub returns : goal.returns
