@@ -6,7 +6,7 @@ ghost use Rattle.entry.specs.Kind.{number_of};
 ghost use Rattle.entry.specs.Claim.{claim};
 ghost use Rattle.memory.specs.Map.{blank, refusal_number, answered, absorb, inserted, registered};
 ghost use Rattle.memory.specs.Made.{Made};
-ghost use Rattle.memory.specs.Run.{registered_all};
+ghost use Rattle.memory.specs.Run.{registered_all, settled};
 
 use entry::{BootloaderMemoryKind, Claim, MemoryEntry};
 use numbers::Numbered;
@@ -121,15 +121,26 @@ impl MemoryMap {
         self.insert(pages)
     }
 
-    // Registers one claim after the other in a lent map, until one is refused. What it had registered stays then, so a source that is
-    // refused as a whole works on a copy.
-    pub fn register_all(&mut self, claims: &[Claim]) -> Result<(), MapRefusal>
+    // Registers one claim after the other in a lent map, until one is refused. What it had registered stays then, so this is a step of the
+    // call below and no call of its own.
+    fn register_each(&mut self, claims: &[Claim]) -> Result<(), MapRefusal>
         requires { Made 4096 self.old }
         ensures { answered self.new result ≡ registered_all 4096 self.old claims.now }
     {
         for claim in claims {
             self.register_in(*claim)?;
         }
+        Ok(())
+    }
+
+    // Registers the claims of a source in a lent map, or none of them: a refusal leaves the map as it was.
+    pub fn register_all(&mut self, claims: &[Claim]) -> Result<(), MapRefusal>
+        requires { Made 4096 self.old }
+        ensures { answered self.new result ≡ settled self.old (registered_all 4096 self.old claims.now) }
+    {
+        let mut next = *self;
+        next.register_each(claims)?;
+        *self = next;
         Ok(())
     }
 

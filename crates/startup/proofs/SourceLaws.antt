@@ -12,9 +12,9 @@ use Rattle.memory.specs.declared.MapRefusal.TheVariants as map
 use Rattle.memory.specs.declared.Registered.{Registered}
 use Rattle.memory.specs.Map.{blank}
 use Rattle.memory.specs.Made.{Made}
-use Rattle.memory.specs.Run.{is_done, registered_all}
+use Rattle.memory.specs.Run.{is_done, registered_all, settled}
 use Rattle.memory.proofs.MapLaws.{blank_made}
-use Rattle.memory.proofs.RunLaws.{all_made}
+use Rattle.memory.proofs.RunLaws.{all_made, settled_done, settled_refused}
 use Rattle.bootloader.specs.List.{all_known, claims, listed}
 use Rattle.bootloader.proofs.ListLaws.{listed_made}
 use Rattle.runs.proofs.Runs.{done_or, run_append}
@@ -37,6 +37,15 @@ ended_done r e = rw e
 pub ended_refused : (r : Registered) → is_done r.answer ≡ false → rejection MapFull ≡ ended_sources r
 unfolding ended_sources map_verdict
 ended_refused r e = rw e
+
+-- what a refused source had registered does not matter: it is the empty map that is handed back
+pub ended_settled : (m : MemoryMap) (r : Registered) → ended_sources (settled m r) ≡ ended_sources r
+unfolding ended_sources map_verdict
+ended_settled m r = by (is_done r.answer) refl
+  where
+    by : (done : Bool) → is_done r.answer ≡ done → ended_sources (settled m r) ≡ ended_sources r
+    by true e = rw (settled_done m r e)
+    by false e = rw (settled_refused m r e, e)
 
 module _ (p : ℕ) (s : List ℕ) (o : Order) where
   -- ── What is checked first decides ──
