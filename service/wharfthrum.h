@@ -24,7 +24,7 @@ extern "C" {
 /* Bytes of the longest order file. A longer one is refused by its length alone, so no more than one byte more need be read. */
 #define WHARFTHRUM_FILE 65536
 /* Bytes of stack for a thread that makes any of the calls. The most that we found is 170 KiB, with the 5 that the thread itself takes: for
- * wharfthrum_build_map, on one Free range carved by 511 reservations given from the top down. For wharfthrum_claim_late it is 53 KiB. Measured
+ * wharfthrum_build_map, on one Free range carved by 511 reservations given from the top down. For wharfthrum_claim_late it is 41 KiB. Measured
  * and not proved: service/stack.c. */
 #define WHARFTHRUM_STACK 262144
 

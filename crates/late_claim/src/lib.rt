@@ -108,7 +108,7 @@ pub fn claim_late_in(
 }
 
 // A late claim on a map by value. A refusal gives back the map and leaves every number of the slots. Base, size and kind are three parameters,
-// as C calls it. Each arm writes the count and the answer, since a refusal has no count of its own.
+// as C calls it. The map is moved into what is handed back in one place: an arm of its own for each answer, tried, took the stack of one map more.
 pub fn claim_late(
     mut map: MemoryMap,
     base: u64,
@@ -120,16 +120,9 @@ pub fn claim_late(
     requires { Made 4096 map }
     ensures { after result slots.new ≡ late_of 4096 map (claim base size kind) count slots.old }
 {
-    match claim_late_in(&mut map, Claim { base, size, kind }, slots, count) {
-        Ok(n) => Late {
-            map,
-            count: n,
-            answer: Ok(()),
-        },
-        Err(refusal) => Late {
-            map,
-            count,
-            answer: Err(refusal),
-        },
-    }
+    let (count, answer) = match claim_late_in(&mut map, Claim { base, size, kind }, slots, count) {
+        Ok(n) => (n, Ok(())),
+        Err(refusal) => (count, Err(refusal)),
+    };
+    Late { map, count, answer }
 }

@@ -12,6 +12,7 @@ ghost use Rattle.map_numbers.specs.Numbers.{map_in, numbers_of};
 ghost use Rattle.service.specs.Plain.{has_share, share_float, plain_of};
 ghost use Rattle.service.specs.Late.{memory_after, plain_late};
 
+use entry::Claim;
 use numbers::Numbered;
 use startup::{Refusal, Summary};
 
@@ -142,10 +143,12 @@ pub extern "C" fn wharfthrum_claim_late(
     ensures slots_after { slots.new ≡ (late_of 4096 (map_in map.old) (claim base size kind) count slots.old).table }
     ensures map_after { map.new ≡ numbers_of (late_of 4096 (map_in map.old) (claim base size kind) count slots.old).map }
 {
-    let late = late_claim::claim_late(map_numbers::load(map), base, size, kind, slots, count);
-    map_numbers::store(map, late.map);
+    let mut loaded = map_numbers::load(map);
+    let claim = Claim { base, size, kind };
+    let answer = late_claim::claim_late_in(&mut loaded, claim, slots, count);
+    map_numbers::store(map, loaded);
     WharfthrumLate {
-        number: late.answer.number() as u64,
-        count: late.count as u64,
+        number: answer.number() as u64,
+        count: answer.unwrap_or(count) as u64,
     }
 }
