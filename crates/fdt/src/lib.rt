@@ -100,7 +100,9 @@ fn prop_at<'a>(tree: Tree<'a>, p: usize) -> Token
     Token::Bad
 }
 
-// The token at p.
+// The token at p. Every reader goes over tokens, so it is no call of its own: as one, with the blocks handed over behind a pointer, the way past
+// a node's children took twice the instructions.
+#[inline(always)]
 pub fn token_at<'a>(tree: Tree<'a>, p: usize) -> Token
     ensures { result ≡ tok_at tree.entry.structure.now tree.entry.strings.now p }
 {

@@ -42,12 +42,13 @@ fn stated_alike(root: CellCount, own: CellCount) -> bool
 pub fn children_count<'a>(tree: Tree<'a>, root: usize, node: usize) -> bool
     ensures { result ≡ children_count (props_of (node_at tree.entry.structure.now tree.entry.strings.now root)) (props_of (node_at tree.entry.structure.now tree.entry.strings.now node)) }
 {
-    let above = nodes::cells_of(tree, root);
-    let own = nodes::cells_of(tree, node);
-    if !stated_alike(above.address, own.address) {
+    // The counts are read one after the other and not by `cells_of`: each is looked for among all properties, and the first test may decide.
+    let address = nodes::address_cells(tree, root);
+    if !stated_alike(address, nodes::address_cells(tree, node)) {
         return false;
     }
-    if !stated_alike(above.size, own.size) {
+    let size = nodes::size_cells(tree, root);
+    if !stated_alike(size, nodes::size_cells(tree, node)) {
         return false;
     }
     match nodes::getprop(tree, node, b"ranges") {
