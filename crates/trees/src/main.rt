@@ -578,10 +578,15 @@ fn is_refusal(text: &[u8], number: u8) -> bool {
 
 // Opens a tree. `Err` is the first part that differs: 1 what opening it answers, 2 its text, or as check_node says.
 fn replay_tree<'a>(blob: &'a [u8], text: &'a [u8]) -> Result<(), u64> {
-    match fdt::open_tree(blob) {
+    let opened = fdt::open_tree(blob);
+    let number = opened.number();
+    match opened {
         Ok(None) => part_of(is_end(text, same_bytes(text, 0, b"no tree\n")), 1),
-        Ok(Some(blocks)) => same_tree(blob, text, blocks),
-        Err(fault) => part_of(is_refusal(text, fault.number()), 1),
+        Ok(Some(blocks)) => {
+            part_of(number == 0, 1)?;
+            same_tree(blob, text, blocks)
+        }
+        Err(_) => part_of(is_refusal(text, number), 1),
     }
 }
 
