@@ -7,16 +7,15 @@ use mathlib.Core.Bool.{true}
 use Prim.Native.Nat.{ℕ, suc, ◌+◌, ◌-◌, ◌*◌, ◌/◌, ◌^◌, ◌≤◌, ◌<◌}
 use native.Mathlib.Nat.{suc-mul, mul-le-mul_left, div-lt_iff_lt-mul}
 use native.Mathlib.Omega.{arith}
-use lib.ListN.{length, get_or, take, drop}
+use lib.ListN.{length, get_or, drop}
 use borrow.Author.Tests.{eq-eqb, ne_eqb}
 use Rattle.entry.specs.declared.MemoryEntry.{MemoryEntry}
 use Rattle.entry.specs.Entry.{overlap, meet}
 use Rattle.entry.proofs.EntryLaws.{Meets, some, none, meets}
 use Rattle.memory.specs.declared.MemoryMap.{MemoryMap}
 use Rattle.memory.specs.Map.{vacant}
-use Rattle.memory.specs.Made.{Made}
-use Rattle.listing.specs.Listing.{wants}
-use Rattle.listing.proofs.ListingLaws.{held_take, those_done, those_takes, those_leaves}
+use Rattle.listing.specs.Listing.{held, wants}
+use Rattle.listing.proofs.ListingLaws.{those_done, those_takes, those_leaves}
 use Rattle.areas.specs.Areas.{limit_of, free_of}
 use Rattle.sheet.specs.Sheet.{pages_of, free_in, free_pages}
 
@@ -83,7 +82,7 @@ module _ {p : ℕ} {limits : MemoryEntry} {es : List MemoryEntry} {pages i : ℕ
       adds part is h e = step ((part.end - part.start) / p) (takes (Some part) is) h e
 
 -- the map's own
-pub counted_all : {p : ℕ} {m : MemoryMap} → Made p m → (low high : Option ℕ) {limits : MemoryEntry} → limits ≡ limit_of p low high → {pages i : ℕ}
-    → Counting p limits (take m.size m.entries) pages i → length (take m.size m.entries) ≤ i → pages ≡ free_pages p low high m
+pub counted_all : {p : ℕ} (m : MemoryMap) (low high : Option ℕ) {limits : MemoryEntry} → limits ≡ limit_of p low high → {pages i : ℕ}
+    → Counting p limits (held m) pages i → length (held m) ≤ i → pages ≡ free_pages p low high m
 unfolding free_pages
-counted_all made low high is inv h = rw (held_take made, ← is) (ends inv h)
+counted_all m low high is inv h = rw (← is) (ends inv h)

@@ -1,6 +1,7 @@
 use mathlib.Core.Path.{sym, ◌∙◌}
 use native.Mathlib.Nat.{le_of_lt}
 use native.Mathlib.Omega.{arith}
+use Rattle.listing.proofs.ListingLaws.{held_take}
 use Rattle.sheet.proofs.Counting.{meet_some, pages_few, begins, passes, misses, adds, counted_all}
 use Rattle.sheet.proofs.free_pages.Goals as goal
 use Rattle.sheet.proofs.free_pages.Goals.{then-held-number+in-Some, then-held-number+in_default, else-held-number}
@@ -23,4 +24,5 @@ loop-held-preserved c =
 
 pub returns : goal.returns
 returns c =
-    counted_all c.requires _ _ c.limits-limits.ensures c.loop-held.invariant c.loop-held-test.false
+    let e = held_take c.requires in
+    counted_all c.args.map _ _ c.limits-limits.ensures (rw (← e) at c.loop-held.invariant) (rw (← e) at c.loop-held-test.false)
