@@ -115,10 +115,22 @@ module _ (x : ℕ) (s : List ℕ) (at : ℕ) where
   pub finds : {r : ℕ} → r ≡ first_byte x s at → Finds x s at r
   finds e = record { is = e; from = rw e first_ge; upto = λ h. rw e (first_le h) }
 
+-- the search has come to the place i, and looks at the byte at a place p
+module _ (x : ℕ) (s : List ℕ) (at i p : ℕ) (e : first_byte x s at ≡ first_byte x s i) (h : i < length s) where
+  -- x at a place up to there is the first
+  pub found_there : at ≤ p → p ≤ i → get_or s p 0 ≡ x → Finds x s at p
+  found_there l u here =
+      finds x s at
+      (first_only x s at p l (omega arith) (λ k from below. first_before x s at k from (omega (arith, e, first_ge x s i))) (λ inside. here))
+
+  -- it goes on where there is none at i itself
+  pub passed_there : p ≡ i → (get_or s p 0 ≡ x → ⊥) → first_byte x s at ≡ first_byte x s (i + 1)
+  passed_there same other = e ∙ first_step x s i h (λ m. other (rw same m))
+
 -- where none is found from a place on: a place past the end is its own answer, and else the end is
-pub finds_none : (x : ℕ) (s : List ℕ) (at i : ℕ) → first_byte x s at ≡ first_byte x s i → length s ≤ i → (at ≤ length s → i ≤ length s)
-    → Finds x s at (max at (length s))
-finds_none x s at i e l u = finds x s at (go (ltb (length s) at) refl)
+pub finds_none : (x : ℕ) (s : List ℕ) (at i end : ℕ) → first_byte x s at ≡ first_byte x s i → length s ≤ i → (at ≤ length s → i ≤ length s)
+    → end ≡ length s → Finds x s at (max at end)
+finds_none x s at i end e l u whole = rw whole (finds x s at (go (ltb (length s) at) refl))
   where
     go : (b : Bool) → ltb (length s) at ≡ b → max at (length s) ≡ first_byte x s at
     go true t =
