@@ -39,13 +39,16 @@ pub fn build(
 {
     let mut slots = [0u64; 1024];
     let n = areas::build(map, low, high, &mut slots)?;
-    if row.len() < n {
-        return Err(AreasRefusal::TooManyAreas);
-    }
-    for i in 0..n {
+    let answer = if row.len() < n {
+        Err(AreasRefusal::TooManyAreas)
+    } else {
+        Ok(n)
+    };
+    // A refusal writes none: one loop for both, so that how many it writes is a value, where a must-fail edit has another.
+    for i in 0..answer.unwrap_or(0) {
         row[i] = area_of(&slots, i);
     }
-    Ok(n)
+    answer
 }
 
 // A row by value, and what the build into it answers. A refusal hands back the row as it came, so this is no Result.
