@@ -1,5 +1,6 @@
 -- The loop over the claims: what is left to claim, on the arrays as they are, ends as the whole run does. Assumes nothing.
-use Rattle.std.specs.Prelude.{Ok}
+use Rattle.std.specs.Prelude.{Result, Ok, Err}
+use Rattle.std.specs.Result.{result_unwrap_or, result_and}
 use mathlib.Core.Path.{◌≡◌, refl, ap, sym, ◌∙◌}
 use mathlib.Core.List.{List, ◌∷◌}
 use Prim.Native.Nat.{ℕ, suc, ◌+◌, ◌-◌, ◌/◌, ◌≤◌, ◌<◌}
@@ -10,7 +11,9 @@ use Rattle.entry.specs.declared.Claim.{Claim}
 use Rattle.memory.specs.declared.MemoryMap.{MemoryMap}
 use Rattle.memory.specs.Made.{Made}
 use Rattle.bootloader.specs.List.{claim_at, claims_at, claims}
-use Rattle.late_claim.specs.Late.{late_number, After, late_of}
+use Rattle.numbers.specs.Number.{number_by}
+use Rattle.late_claim.specs.declared.LateRefusal.{LateRefusal}
+use Rattle.late_claim.specs.Late.{late_number, late_refusal_number, After, after_in, late_of}
 use Rattle.late_claim.proofs.Claiming.{zero_done, other}
 use Rattle.late_claim.proofs.MadeLaws.{late_made}
 use Rattle.late_run.specs.Run.{Run, run, stopped, late_all}
@@ -26,6 +29,19 @@ module _ (p : ℕ) (m : MemoryMap) (n : ℕ) (l : List ℕ) (i : ℕ) (c : Claim
   pub run_stops : (late_number a.answer ≡ 0 → ⊥) → late_all p m n l i (c ∷ cs) ≡ stopped a i
   unfolding late_all
   run_stops f = rw is (other (late_of p m c n l).answer (λ z. f (ap (λ (x : After). late_number x.answer) is ∙ z)) _ (stopped (late_of p m c n l) i))
+
+-- ── What a claim in place says: the count or the old one, done or the refusal, and the number ──
+module _ (m : MemoryMap) (n : ℕ) (l : List ℕ) where
+  abbrev pub left_by : Result ℕ LateRefusal → After
+  left_by r = record { map = m; count = result_unwrap_or r n; table = l; answer = result_and r (Ok tt) }
+
+  pub left_is : (r : Result ℕ LateRefusal) → left_by r ≡ after_in m n l r
+  left_is (Ok k) = refl
+  left_is (Err e) = refl
+
+pub number_is : (r : Result ℕ LateRefusal) → number_by late_refusal_number r ≡ late_number (result_and r (Ok tt))
+number_is (Ok k) = refl
+number_is (Err e) = refl
 
 -- ── The loop, at claim i of the k in the bytes t ──
 pub record Running (p : ℕ) (t : List ℕ) (k : ℕ) (goal : Run) (m : MemoryMap) (n : ℕ) (l : List ℕ) (size i : ℕ) : Type 0 where

@@ -8,6 +8,7 @@ ghost use Rattle.late_run.specs.Run.{late_all, ran, ran_in};
 
 use late_claim::LateRefusal;
 use memory::MemoryMap;
+use numbers::Numbered;
 
 // The map, and how many areas the table has, after the claims that are done; the answer of the first that is refused and its index,
 // counted from 0, or done and how many there are. What the claims before a refusal did stands, so this is no Result. The map stands first so
@@ -37,17 +38,16 @@ pub fn claim_all_in(map: &mut MemoryMap, slots: &mut [u64], count: usize, list: 
     let mut used = count;
     let n = list.len() / 24;
     for i in 0..n {
-        match late_claim::claim_late_in(map, bootloader::claim_at(list, i), slots, used) {
-            Ok(left) => {
-                used = left;
-            }
-            Err(refusal) => {
-                return LateRunIn {
-                    count: used,
-                    index: i,
-                    answer: Err(refusal),
-                };
-            }
+        let said = late_claim::claim_late_in(map, bootloader::claim_at(list, i), slots, used);
+        used = said.unwrap_or(used);
+        // By its number, 0 for done: a value, where a must-fail edit asks for another, and the arms of a match are names that the proof cites.
+        let refused = said.number() != 0;
+        if refused {
+            return LateRunIn {
+                count: used,
+                index: i,
+                answer: said.and(Ok(())),
+            };
         }
     }
     LateRunIn {
