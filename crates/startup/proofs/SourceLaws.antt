@@ -5,12 +5,14 @@ use mathlib.Core.Path.{◌≡◌, refl, ap, sym, ◌∙◌}
 use mathlib.Core.Bool.{Bool, true, false}
 use mathlib.Core.List.{List, ◌++◌}
 use Prim.Native.Nat.{ℕ}
+use native.Mathlib.Omega.{arith}
 use Rattle.words.proofs.BytesLaws.{never}
 use Rattle.page.specs.Round.{Page}
 use Rattle.memory.specs.declared.MemoryMap.{MemoryMap}
+use Rattle.memory.specs.declared.MapRefusal.{MapRefusal}
 use Rattle.memory.specs.declared.MapRefusal.TheVariants as map
 use Rattle.memory.specs.declared.Registered.{Registered}
-use Rattle.memory.specs.Map.{blank}
+use Rattle.memory.specs.Map.{blank, answer_number}
 use Rattle.memory.specs.Made.{Made}
 use Rattle.memory.specs.Run.{is_done, registered_all, settled}
 use Rattle.memory.proofs.MapLaws.{blank_made}
@@ -46,6 +48,19 @@ ended_settled m r = by (is_done r.answer) refl
     by : (done : Bool) → is_done r.answer ≡ done → ended_sources (settled m r) ≡ ended_sources r
     by true e = rw (settled_done m r e)
     by false e = rw (settled_refused m r e, e)
+
+-- ── The list's answer a by its number n: 1 is an unknown kind, and nothing else is ──
+module _ (a : Result Unit MapRefusal) {n : ℕ} (is : n ≡ answer_number a) where
+  pub is_unknown : n ≡ 1 → a ≡ Err map.UnknownKind
+  is_unknown one = go a (sym is ∙ one)
+    where
+      go : (b : Result Unit MapRefusal) → answer_number b ≡ 1 → b ≡ Err map.UnknownKind
+      go (Ok _) z = never z
+      go (Err map.UnknownKind) z = refl
+      go (Err map.MapFull) z = let clash : ⊥ = omega arith in absurd clash
+
+  pub not_unknown : (n ≡ 1 → ⊥) → a ≡ Err map.UnknownKind → ⊥
+  not_unknown other e = other (is ∙ ap answer_number e)
 
 module _ (p : ℕ) (s : List ℕ) (o : Order) where
   -- ── What is checked first decides ──

@@ -157,7 +157,9 @@ pub fn register_memory_from_kernel_args(file: &[u8], order: Order) -> Sources
     let list = words::part(file, order.list.at, order.list.len);
     let tree = words::part(file, order.tree.at, order.tree.len);
     let listed = bootloader::register_bootloader_areas(MemoryMap::empty(), list);
-    if let Err(MapRefusal::UnknownKind) = listed.answer {
+    // By its number: a value, where a must-fail edit asks for the other refusal, and a pattern is a name that the proof cites.
+    let unknown = listed.answer.number() == MapRefusal::UnknownKind.number();
+    if unknown {
         return rejected(Refusal::UnknownKind);
     }
     let treed = dtb::register_devicetree(listed.map, tree, order.arm);
