@@ -113,7 +113,10 @@ pub fn child_value<'a>(tree: Tree<'a>, way: Way, cells: Cells, child: usize) -> 
         Way::Reserve => reserved_value(tree, child, cells),
         Way::Soc => nodes::getprop(tree, child, b"reg"),
         Way::Controllers => {
-            nodes::getprop(tree, child, b"interrupt-controller")?;
+            // No `?`: what a child without the property gives stands here, where a must-fail edit gives another value.
+            let Some(_) = nodes::getprop(tree, child, b"interrupt-controller") else {
+                return None;
+            };
             nodes::getprop(tree, child, b"reg")
         }
     }

@@ -1,5 +1,4 @@
 -- `child_value` goes by the rule of the parent; of the root's children `interrupt-controller` is asked first. Assumes nothing.
-use mathlib.Core.Path.{◌∙◌}
 use Rattle.claims.specs.Values.{child_value}
 use Rattle.claims.proofs.ClaimLaws.{controller, no_controller}
 use Rattle.claims.proofs.child_value.Goals as goal
@@ -11,10 +10,9 @@ pub returns-in-Soc : goal.returns-in-Soc
 unfolding child_value
 returns-in-Soc c = rw c.in-Soc.is c.getprop.ensures
 
-pub returns-in_ok-getprop-in-Controllers : goal.returns-in_ok-getprop-in-Controllers
-returns-in_ok-getprop-in-Controllers c =
-    controller _ _ _ _ c.getprop-in-Controllers.ensures _ c.in-Controllers.is _ _ _ c.in_ok-getprop-in-Controllers.was _ c.getprop-in-Controllers-2.ensures
+pub returns-in-Some : goal.returns-in-Some
+returns-in-Some c =
+    controller _ _ _ _ c.getprop-in-Controllers.ensures _ c.in-Controllers.is _ _ _ c.in-Some.is _ c.getprop-in-Controllers-2.ensures
 
-pub returns-in_err-getprop-in-Controllers : goal.returns-in_err-getprop-in-Controllers
-returns-in_err-getprop-in-Controllers c =
-    c.from_residual.ensures ∙ no_controller _ _ _ _ c.getprop-in-Controllers.ensures _ c.in-Controllers.is _ _ c.in_err-getprop-in-Controllers.was
+pub returns-in_default : goal.returns-in_default
+returns-in_default c = no_controller _ _ _ _ c.getprop-in-Controllers.ensures _ c.in-Controllers.is _ _ c.in_default.is
