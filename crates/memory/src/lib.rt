@@ -121,9 +121,9 @@ impl MemoryMap {
         self.insert(pages)
     }
 
-    // Registers one claim after the other in a lent map, until one is refused. What it had registered stays then, so this is a step of the
-    // call below and no call of its own.
-    fn register_each(&mut self, claims: &[Claim]) -> Result<(), MapRefusal>
+    // Registers one claim after the other in a lent map, until one is refused. What it had registered stays then: a source that is refused as
+    // a whole is registered by the call below.
+    pub fn register_all(&mut self, claims: &[Claim]) -> Result<(), MapRefusal>
         requires { Made 4096 self.old }
         ensures { answered self.new result ≡ registered_all 4096 self.old claims.now }
     {
@@ -134,12 +134,12 @@ impl MemoryMap {
     }
 
     // Registers the claims of a source in a lent map, or none of them: a refusal leaves the map as it was.
-    pub fn register_all(&mut self, claims: &[Claim]) -> Result<(), MapRefusal>
+    pub fn register_all_or_none(&mut self, claims: &[Claim]) -> Result<(), MapRefusal>
         requires { Made 4096 self.old }
         ensures { answered self.new result ≡ settled self.old (registered_all 4096 self.old claims.now) }
     {
         let mut next = *self;
-        next.register_each(claims)?;
+        next.register_all(claims)?;
         *self = next;
         Ok(())
     }
@@ -165,4 +165,81 @@ pub fn register_memory_region(
     ensures { result ≡ registered 4096 map (claim base size (number_of kind)) }
 {
     map.register(base, size, kind.number())
+}
+
+// The two calls for a source, on one whose third claim is of no kind (0x200), which document 01 answers with 1. What is held of the first two
+// is its rounding: a Free range loses the pages that it has in part, and a reserved byte takes its page.
+#[cfg(test)]
+mod tests {
+    use super::*;
+
+    const SOURCE: [Claim; 4] = [
+        Claim {
+            base: 0x1001,
+            size: 0x2fff,
+            kind: 1,
+        },
+        Claim {
+            base: 0x5001,
+            size: 1,
+            kind: 3,
+        },
+        Claim {
+            base: 0x9000,
+            size: 0x1000,
+            kind: 0x200,
+        },
+        Claim {
+            base: 0xd000,
+            size: 0x1000,
+            kind: 1,
+        },
+    ];
+
+    // Whether just the first two are held.
+    fn two_held(map: &MemoryMap) -> bool {
+        let [first, second] = [map.entries[0], map.entries[1]];
+        map.size == 2
+            && [first.start, first.end, first.kind] == [0x2000, 0x4000, 1]
+            && [second.start, second.end, second.kind] == [0x5000, 0x6000, 3]
+    }
+
+    // `Err` is the first part that differs: 1 the answer, 2 the map, 3 and 4 the same of the first two claims alone.
+    #[test]
+    fn all_stays_up_to_a_refusal() -> Result<(), u64> {
+        let mut map = MemoryMap::empty();
+        if map.register_all(&SOURCE).number() != 1 {
+            return Err(1);
+        }
+        if !two_held(&map) {
+            return Err(2);
+        }
+        let mut map = MemoryMap::empty();
+        if map.register_all(&SOURCE[..2]).number() != 0 {
+            return Err(3);
+        }
+        if !two_held(&map) {
+            return Err(4);
+        }
+        Ok(())
+    }
+
+    #[test]
+    fn all_or_none_leaves_nothing_at_a_refusal() -> Result<(), u64> {
+        let mut map = MemoryMap::empty();
+        if map.register_all_or_none(&SOURCE).number() != 1 {
+            return Err(1);
+        }
+        if map.size != 0 {
+            return Err(2);
+        }
+        let mut map = MemoryMap::empty();
+        if map.register_all_or_none(&SOURCE[..2]).number() != 0 {
+            return Err(3);
+        }
+        if !two_held(&map) {
+            return Err(4);
+        }
+        Ok(())
+    }
 }

@@ -140,7 +140,7 @@ fn register_pairs(mut map: MemoryMap, order: Order) -> Sources
     requires { Made 4096 map }
     ensures { result ≡ ended_sources (registered_all 4096 map (pair_claims order)) }
 {
-    let Ok(()) = map.register_all(&pair_claims(order)) else {
+    let Ok(()) = map.register_all_or_none(&pair_claims(order)) else {
         return rejected(Refusal::MapFull);
     };
     Sources {

@@ -1,16 +1,26 @@
--- `register_all` registers the claims in a copy, and hands that over where none is refused. Assumes nothing.
-use mathlib.Core.Path.{ap, sym}
+use mathlib.Core.Path.{ap, sym, ◌∙◌}
 use Rattle.numbers.proofs.Passed.{passed}
+use Rattle.page.proofs.Laws.{page}
+use Rattle.memory.specs.declared.Registered.{Registered}
+use Rattle.memory.specs.Map.{answered}
 use Rattle.memory.specs.Run.{is_done}
-use Rattle.memory.proofs.RunLaws.{settled_done, settled_refused}
+use Rattle.memory.proofs.MapLaws.{one_made}
+use Rattle.memory.proofs.RunLaws.{left_none, left_goes, left_stops}
 use Rattle.memory.proofs.MemoryMap.register_all.Goals as goal
 
-pub returns-in_err-register_each : goal.returns-in_err-register_each
-returns-in_err-register_each c =
-    let no = c.in_err-register_each.was in
-    rw (passed c.from_residual.result c.from_residual.ensures.1, ← no, ← c.register_each.ensures) (sym (settled_refused _ _ (ap is_done no)))
+pub returns-in_err-register_in : goal.returns-in_err-register_in
+returns-in_err-register_in c =
+    let r : Registered = answered c.register_in.new.self c.register_in.result in
+    let no = c.in_err-register_in.was in
+    rw (passed c.from_residual.result c.from_residual.ensures.1, ← no)
+    (sym (left_stops 4096 _ _ _ r c.loop-claim-test.true c.register_in.ensures (ap is_done no)) ∙ c.loop-claim.invariant.1)
+
+pub loop-claim-preserved : goal.loop-claim-preserved
+loop-claim-preserved c =
+    let r : Registered = answered c.register_in.new.self c.register_in.result in (
+      one_made 4096 _ _ r page c.register_in.ensures c.loop-claim.invariant.0,
+      sym (left_goes 4096 _ _ _ r c.loop-claim-test.true c.register_in.ensures (ap is_done c.in_ok-register_in.was)) ∙ c.loop-claim.invariant.1,
+    )
 
 pub returns : goal.returns
-returns c =
-    let yes = c.in_ok-register_each.was in
-    rw (← yes, ← c.register_each.ensures) (sym (settled_done _ _ (ap is_done yes)))
+returns c = sym (left_none 4096 _ _ _ c.loop-claim-test.false) ∙ c.loop-claim.invariant.1
