@@ -224,17 +224,17 @@ mod tests {
         Ok(())
     }
 
+    // `Err` 1 and 2 are of the first two claims, which are done, and 3 and 4 of the fourth and the third, in this order, which are not.
     #[test]
-    fn all_or_none_leaves_nothing_at_a_refusal() -> Result<(), u64> {
-        let mut map = MemoryMap::empty();
-        if map.register_all_or_none(&SOURCE).number() != 1 {
-            return Err(1);
-        }
-        if map.size != 0 {
-            return Err(2);
-        }
+    fn all_or_none_leaves_the_map_at_a_refusal() -> Result<(), u64> {
         let mut map = MemoryMap::empty();
         if map.register_all_or_none(&SOURCE[..2]).number() != 0 {
+            return Err(1);
+        }
+        if !two_held(&map) {
+            return Err(2);
+        }
+        if map.register_all_or_none(&[SOURCE[3], SOURCE[2]]).number() != 1 {
             return Err(3);
         }
         if !two_held(&map) {
